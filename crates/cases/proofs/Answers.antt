@@ -1,0 +1,230 @@
+-- The answers of a case's walks, in the scope's own words: plans are lists of persons, each allowed, every rule kept; the games are those of the
+-- four questions.
+use mathlib.Core.Path.{_≡_, refl, sym, ap, ap₂, _∙_, subst, subst₂}
+use mathlib.Core.Logic.{_⊎_, inl, inr, _↔_}
+use mathlib.Core.Option.{Option, none, some, Option·none-ne-some, Option·some-ne-none}
+use mathlib.Core.Bool.{Bool, true, false}
+use mathlib.Core.List.{List, [], _∷_, _++_, append-nil}
+use Prim.Native.Nat.{ℕ, zero, suc, _+_, _-_, _≤_, _<_}
+use native.Mathlib.Decide.{decLt}
+use native.Mathlib.Omega.{arith}
+use lib.ListN.{length, getD, take, drop, length-append, length-drop, take-append-drop}
+use lib.Seq.{take-append-seam, drop-cons, getD-append-seam, append-snoc}
+use Rattle.sets.specs.Sets.{has}
+use Rattle.sets.proofs.Lists.{lt-or-eq}
+use Rattle.sets.proofs.Bits.{has-empty}
+use Rattle.games.specs.Walks.{plan, static, decremental, dynamic}
+use Rattle.games.specs.Games.{Absent, Contains, Line, Planned, Static, Decremental, Dynamic, Round, Earliest, First, goodPeople, canLeave, good}
+use Rattle.games.proofs.Verdicts.{contains-empty, plan-exactly, plan-first, static-exactly, static-shown, decremental-exactly, decremental-shown}
+use Rattle.games.proofs.Good.{dynamic-exactly, dynamic-shown}
+use Rattle.games.proofs.Chain.{dynamic→decremental, decremental→static, static→planned}
+use Rattle.games.proofs.Matched.{Matches, decremental-matched, dynamic-matched}
+use Rattle.cases.specs.declared.Case.{Case}
+use Rattle.cases.specs.Case.{people, steps}
+use Rattle.cases.specs.Plans.{Valid, Plan, Without, FirstPlan}
+use Rattle.cases.specs.Questions.{HasPlan, StaticYes, Placed, DecrementalYes, DynamicYes}
+use Rattle.cases.specs.Chain.{chain, planOf, staticOf, decrementalOf, dynamicOf}
+use Rattle.cases.proofs.Rounds.{start-valid, prefix-valid, valid-short, round-placed, placed-round, round-placed-person, placed-round-person, line-valid, valid-line, without-start, planned-plan}
+
+-- ---- the two notions of a round give the same games
+
+abbrev Same : Case → List ℕ → List ℕ → Type 0
+Same c p s = (p ≡ s) × Valid c p
+
+to-placed : (c : Case) → Matches (Round (chain c)) (Placed c) (Same c)
+to-placed c A p q s h r = let k = round-placed c A p q (h .1) r in (q, subst (λ x. Placed c A x q) (h .0) k, (refl, k .valid))
+
+to-round : (c : Case) → Matches (Placed c) (Round (chain c)) (Same c)
+to-round c A p q s h k = (q, subst (λ x. Round (chain c) A x q) (h .0) (placed-round c A p q k), (refl, k .valid))
+
+module _ (c : Case) where
+  -- from a valid position the arena's games are the scope's
+  pub decremental-same : (t k a : ℕ) (p : List ℕ) → Valid c p
+      → Decremental (people c) (Round (chain c)) t k a p ↔ Decremental (people c) (Placed c) t k a p
+  decremental-same t k a p v = (
+    decremental-matched (people c) (Round (chain c)) (Placed c) (Same c) (to-placed c) t k a p p (refl, v),
+    decremental-matched (people c) (Placed c) (Round (chain c)) (Same c) (to-round c) t k a p p (refl, v),
+  )
+
+  pub dynamic-same : (t k : ℕ) (p : List ℕ) → Valid c p → Dynamic (people c) (Round (chain c)) t k p ↔ Dynamic (people c) (Placed c) t k p
+  dynamic-same t k p v = (
+    dynamic-matched (people c) (Round (chain c)) (Placed c) (Same c) (to-placed c) t k p p (refl, v),
+    dynamic-matched (people c) (Placed c) (Round (chain c)) (Same c) (to-round c) t k p p (refl, v),
+  )
+
+  -- ---- plan
+
+  without-nobody : (q : List ℕ) → Without 0 q
+  without-nobody q i h = has-empty (getD q i 0)
+
+  -- a plan is got exactly if there is one
+  pub plan-exact : ((q : List ℕ) × (planOf c .got ≡ some q)) ↔ HasPlan c
+  plan-exact =
+      let e = plan-exactly (chain c) 0 (steps c) [] in
+      let f = planned-plan c 0 in (
+        λ q. let r = f .0 (e .0 q) in (r .0, r .1),
+        λ q. e .1 (f .1 (q .0, q .1, without-nobody (q .0))),
+      )
+
+  line-extends : (A k : ℕ) (p q : List ℕ) → Valid c p → Line (people c) (Round (chain c)) A k p q → (us : List ℕ) × (q ≡ p ++ us)
+  line-extends A zero p q v l = ([], sym l ∙ sym (append-nil p))
+  line-extends A (suc k) p q v l =
+      let s = round-placed c A p (l .0) v (l .1) in
+      let r = line-extends A k (l .0) q (s .valid) (l .2) in
+      (s .person ∷ r .0, r .1 ∙ ap (λ (x : List ℕ). x ++ r .0) (s .next) ∙ append-snoc p (s .person) (r .0))
+
+  first-line : (k : ℕ) (p q : List ℕ) → First (chain c) 0 k p q → Line (people c) (Round (chain c)) 0 k p q
+  first-line zero p q f = f
+  first-line (suc k) p q f = (f .0, f .1, first-line k (f .0) q (f .3))
+
+  module _ (k : ℕ) (p q : List ℕ) (f : First (chain c) 0 (suc k) p q) (v : Valid c p) where
+    abbrev placed : Placed c 0 p (f .0)
+    placed = round-placed c 0 p (f .0) v (f .1)
+
+    rest : (us : List ℕ) × (q ≡ f .0 ++ us)
+    rest = line-extends 0 k (f .0) q (placed .valid) (first-line k (f .0) q (f .3))
+
+    split : q ≡ p ++ (placed .person ∷ rest .0)
+    split = rest .1 ∙ ap (λ (x : List ℕ). x ++ rest .0) (placed .next) ∙ append-snoc p (placed .person) (rest .0)
+
+    longer : length (f .0) ≡ suc (length p)
+    longer = omega (arith, ap length (placed .next), length-append p (placed .person ∷ []))
+
+    -- a plan that goes on from p with v has no lower person there than the first plan
+    lower-here : (u : ℕ) (us : List ℕ) → Valid c (p ++ (u ∷ us)) → length us ≡ k → placed .person ≤ u
+    lower-here u us w l = go (decLt u (placed .person))
+      where
+        e : p ++ (u ∷ []) ++ us ≡ p ++ u ∷ us
+        e = append-snoc p u us
+
+        line : Line (people c) (Round (chain c)) 0 k (p ++ (u ∷ [])) (p ++ u ∷ us)
+        line =
+            subst₂ (λ j x. Line (people c) (Round (chain c)) 0 j (p ++ (u ∷ [])) x) l e
+            (valid-line c 0 us (p ++ (u ∷ [])) (subst (Valid c) (sym e) w) (without-nobody (p ++ (u ∷ []) ++ us)))
+
+        step : Placed c 0 p (p ++ (u ∷ []))
+        step = record { person = u; present = has-empty u; next = refl; valid = prefix-valid c (p ++ (u ∷ [])) us (subst (Valid c) (sym e) w) }
+
+        go : Dec (u < placed .person) → placed .person ≤ u
+        go (no n) = omega arith
+        go (yes y) =
+            let lower = f .2 .lower (p ++ (u ∷ [])) (placed-round c 0 p (p ++ (u ∷ [])) step) in
+            absurd (lower (omega (arith, placed-round-person c 0 p (p ++ (u ∷ [])) step, round-placed-person c 0 p (f .0) v (f .1))) (p ++ u ∷ us, line))
+
+  -- a plan that begins as the first one does goes on with no lower person
+  no-lower : (k : ℕ) (p q r : List ℕ) (i : ℕ) → First (chain c) 0 k p q → Valid c p → Valid c r → length r ≡ length p + k
+      → length p ≤ i → i < length p + k → take i r ≡ take i q → getD q i 0 ≤ getD r i 0
+  no-lower zero p q r i f v w l lo hi e = let z : ⊥ = omega arith in absurd z
+  no-lower (suc k) p q r i f v w l lo hi e =
+      let n = longer k p q f v in
+      go (λ h. no-lower k (f .0) q r i (f .3) (placed k p q f v .valid) w (omega arith) (omega arith) (omega arith) e) (lt-or-eq (length p) i lo)
+    where
+      begins : length p ≡ i → take i r ≡ p
+      begins h = e ∙ ap₂ take (sym h) (split k p q f v) ∙ take-append-seam p _
+
+      other : length p ≡ i → r ≡ p ++ (getD r i 0 ∷ drop (suc i) r)
+      other h = sym (take-append-drop i r) ∙ ap₂ _++_ (begins h) (drop-cons r i 0 (omega arith))
+
+      here : length p ≡ i → getD q i 0 ≡ placed k p q f v .person
+      here h = ap₂ (λ (x : List ℕ) (j : ℕ). getD x j 0) (split k p q f v) (sym h) ∙ getD-append-seam p (placed k p q f v .person) (rest k p q f v .0) 0
+
+      go : (length p < i → getD q i 0 ≤ getD r i 0) → (length p ≡ i) ⊎ (length p < i) → getD q i 0 ≤ getD r i 0
+      go f′ (inr h) = f′ h
+      go f′ (inl h) =
+          let low = lower-here k p q f v (getD r i 0) (drop (suc i) r) (subst (Valid c) (other h) w) (omega (arith, length-drop (suc i) r)) in
+          omega (arith, here h)
+
+  -- the plan got is a plan, and the first in the walk's order
+  pub plan-got : (q : List ℕ) → planOf c .got ≡ some q → Plan c q × FirstPlan c q
+  plan-got q e =
+      let f = plan-first (chain c) 0 (steps c) [] q e in
+      let l = line-valid c 0 (steps c) [] q (start-valid c) (without-start c 0) (first-line (steps c) [] q f) in (
+        record { valid = l .0; whole = omega (arith, l .2) },
+        λ r s i h b. no-lower (steps c) [] q r i f (start-valid c) (s .valid) (omega (arith, s .whole)) (omega arith) (omega arith) b,
+      )
+
+  -- ---- static
+
+  -- yes exactly if for every set of at most t people there is a plan using none of them
+  pub static-exact : (t : ℕ) → (staticOf c t .got ≡ none) ↔ StaticYes c t
+  static-exact t =
+      let e = static-exactly (chain c) t (steps c) [] in (
+        λ x A a. planned-plan c A .0 (e .0 x A a),
+        λ g. e .1 (λ A a. planned-plan c A .1 (g A a)),
+      )
+
+  -- a no shows the first set, in ascending number, of at most t people without whom there is no plan
+  pub record StaticNo (t A : ℕ) : Type 0 where
+    pub absent : Absent (people c) t A
+    pub unplanned : (q : List ℕ) → Plan c q → Without A q → ⊥
+    pub first : (B : ℕ) → B < A → Absent (people c) t B → (q : List ℕ) × Plan c q × Without B q
+
+  pub static-no : (t A : ℕ) → staticOf c t .got ≡ some A → StaticNo t A
+  static-no t A e =
+      let s = static-shown (chain c) t (steps c) [] A e in
+      record {
+        absent = s .absent;
+        unplanned = λ q p w. s .unplanned (planned-plan c A .1 (q, p, w));
+        first = λ B l a. planned-plan c B .0 (s .first B l a);
+      }
+
+  -- ---- decremental
+
+  -- yes exactly if the desk wins
+  pub decremental-exact : (t : ℕ) → (decrementalOf c t .got ≡ none) ↔ DecrementalYes c t
+  decremental-exact t =
+      let e = decremental-exactly (chain c) t (steps c) 0 [] in
+      let s = decremental-same t (steps c) 0 [] (start-valid c) in
+      (λ x. s .0 (e .0 x), λ g. e .1 (s .1 g))
+
+  -- with A away before the first step the desk still has a winning answer
+  abbrev pub Answers : ℕ → ℕ → Type 0
+  Answers t A = (q : List ℕ) × Placed c A [] q × Decremental (people c) (Placed c) t (steps c - 1) A q
+
+  -- a no shows the first set, in ascending number, that beats the desk when named before the first step
+  pub record DecrementalNo (t A : ℕ) : Type 0 where
+    pub absent : Absent (people c) t A
+    pub beats : Answers t A → ⊥
+    pub first : (B : ℕ) → B < A → Absent (people c) t B → Answers t B
+
+  pub decremental-no : (t A : ℕ) → decrementalOf c t .got ≡ some A → DecrementalNo t A
+  decremental-no t A e = go (steps c) refl e
+    where
+      go : (k : ℕ) → steps c ≡ k → decremental (chain c) t k 0 [] .got ≡ some A → DecrementalNo t A
+      go zero h x = absurd (Option·none-ne-some A (unfold decremental in x))
+      go (suc k) h x =
+          let s = decremental-shown (chain c) t k 0 [] A x in
+          let left : steps c - 1 ≡ k = omega arith in
+          record {
+            absent = s .absent;
+            beats = λ g.
+                let v = g .1 .valid in
+                s .beats (g .0, placed-round c A [] (g .0) (g .1), decremental-same t k A (g .0) v .1 (subst (λ j. Decremental (people c) (Placed c) t j A (g .0)) left (g .2)));
+            first = λ B l a.
+                let g = s .first B l a (contains-empty (people c) B) in
+                let q = round-placed c B [] (g .0) (start-valid c) (g .1) in
+                (g .0, q, subst (λ j. Decremental (people c) (Placed c) t j B (g .0)) (sym left) (decremental-same t k B (g .0) (q .valid) .0 (g .2)));
+          }
+
+  -- ---- dynamic
+
+  -- yes exactly if the desk wins
+  pub dynamic-exact : (t : ℕ) → (dynamicOf c t .got ≡ none) ↔ DynamicYes c t
+  dynamic-exact t =
+      let e = dynamic-exactly (chain c) t (steps c) [] in
+      let s = dynamic-same t (steps c) [] (start-valid c) in
+      (λ x. s .0 (e .0 x), λ g. e .1 (s .1 g))
+
+  -- ---- dynamic yes gives decremental yes, that gives static yes, and that a plan
+
+  pub dynamic-decremental : (t : ℕ) → dynamicOf c t .got ≡ none → decrementalOf c t .got ≡ none
+  dynamic-decremental t e =
+      decremental-exactly (chain c) t (steps c) 0 [] .1 (dynamic→decremental (people c) (Round (chain c)) t (steps c) 0 [] (dynamic-exactly (chain c) t (steps c) [] .0 e))
+
+  pub decremental-static : (t : ℕ) → decrementalOf c t .got ≡ none → staticOf c t .got ≡ none
+  decremental-static t e =
+      static-exactly (chain c) t (steps c) [] .1 (decremental→static (people c) (Round (chain c)) t (steps c) [] (decremental-exactly (chain c) t (steps c) 0 [] .0 e))
+
+  pub static-plan : (t : ℕ) → staticOf c t .got ≡ none → (q : List ℕ) × (planOf c .got ≡ some q)
+  static-plan t e =
+      plan-exactly (chain c) 0 (steps c) [] .1 (static→planned (people c) (Round (chain c)) t (steps c) [] (static-exactly (chain c) t (steps c) [] .0 e))

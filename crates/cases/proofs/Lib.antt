@@ -1,0 +1,8 @@
+-- The theorems of `cases`, in reading order; the laws that they rest on come first.
+pub mod Rules
+pub mod Pairs
+pub mod Rounds
+pub mod Answers
+pub mod Play
+pub mod Counted
+pub mod Worked

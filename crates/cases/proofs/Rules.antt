@@ -1,0 +1,62 @@
+-- The one law of the rules that the games need: what holds with some steps filled holds with fewer of them filled, by the same persons.
+use mathlib.Core.Path.{_≡_, refl, sym, ap, ap₂, _∙_}
+use mathlib.Core.Bool.{Bool, true, false, not, _&&_, _||_}
+use mathlib.Core.List.{List, [], _∷_, _++_}
+use Prim.Native.Nat.{ℕ, zero, suc, _+_, _≤_, _<_}
+use native.Mathlib.Omega.{arith}
+use borrow.Author.Tests.{ltb-true, lt-ltb}
+use lib.Dec.{eqb, ltb, leb·suc-zero}
+use lib.ListN.{length, getD, length-append, List·getD-append}
+use Rattle.sets.specs.Lists.{pick, _∈_, all, any}
+use Rattle.sets.proofs.Lists.{and-true, true-and, all-mem, mem-all, all-cong, any-cong}
+use Rattle.cases.specs.declared.Rule.{Rule}
+use Rattle.cases.specs.declared.Case.{Case}
+use Rattle.cases.specs.Case.{rules}
+use Rattle.cases.specs.Rules.{related, stepsIn, needed, filled, kept, rulesHold}
+use Rattle.cases.specs.Plans.{holds}
+
+-- what is needed of the members of X goes by what holds of each
+pub needed-cong : (form : ℕ) (f g : ℕ → Bool) (xs : List ℕ) → ((x : ℕ) → x ∈ xs → f x ≡ g x) → needed form f xs ≡ needed form g xs
+unfolding needed
+needed-cong form f g xs h = ap₂ (λ (a b : Bool). pick (eqb form 2) a b) (any-cong f g xs h) (all-cong f g xs h)
+
+-- what is filled in d is filled in e, and by the same person
+abbrev pub Fewer : (ℕ → Bool) → (ℕ → ℕ) → (ℕ → Bool) → (ℕ → ℕ) → Type 0
+Fewer d v e w = (x : ℕ) → d x ≡ true → (e x ≡ true) × (w x ≡ v x)
+
+module _ (c : Case) (d e : ℕ → Bool) (v w : ℕ → ℕ) (less : Fewer d v e w) where
+  filled-fewer : (r : Rule) → filled r d ≡ true → filled r e ≡ true
+  unfolding filled
+  filled-fewer r h =
+      let k = and-true (d (r .step .0)) (all d (stepsIn (r .group))) h in
+      true-and (e (r .step .0)) (all e (stepsIn (r .group))) (less (r .step .0) (k .0) .0) (mem-all e (stepsIn (r .group)) (λ x m. less x (all-mem d (stepsIn (r .group)) (k .1) x m) .0))
+
+  kept-fewer : (r : Rule) → filled r d ≡ true → kept c r w ≡ kept c r v
+  unfolding filled kept
+  kept-fewer r h =
+      let k = and-true (d (r .step .0)) (all d (stepsIn (r .group))) h in
+      needed-cong (r .form) (λ x. related c (r .relation) (w (r .step .0)) (w x)) (λ x. related c (r .relation) (v (r .step .0)) (v x)) (stepsIn (r .group))
+      (λ x m. ap₂ (related c (r .relation)) (less (r .step .0) (k .0) .1) (less x (all-mem d (stepsIn (r .group)) (k .1) x m) .1))
+
+  one-fewer : (r : Rule) → not (filled r e) || kept c r w ≡ true → not (filled r d) || kept c r v ≡ true
+  one-fewer r h = go (filled r d) refl
+    where
+      go : (b : Bool) → filled r d ≡ b → not b || kept c r v ≡ true
+      go true q = sym (kept-fewer r q) ∙ (rw (filled-fewer r q) at h)
+      go false q = refl
+
+  pub hold-fewer : rulesHold c e w ≡ true → rulesHold c d v ≡ true
+  unfolding rulesHold
+  hold-fewer h = mem-all (λ r. not (filled r d) || kept c r v) (rules c) (λ r m. one-fewer r (all-mem (λ x. not (filled x e) || kept c x w) (rules c) h r m))
+
+-- the beginning of a position at which the rules hold
+pub holds-prefix : (c : Case) (p us : List ℕ) → holds c (p ++ us) ≡ true → holds c p ≡ true
+unfolding holds
+holds-prefix c p us e =
+    hold-fewer c (λ i. ltb i (length p)) (λ i. ltb i (length (p ++ us))) (λ i. getD p i 0) (λ i. getD (p ++ us) i 0)
+    (λ x h. let k = ltb-true x (length p) h in (lt-ltb x (length (p ++ us)) (omega (arith, length-append p us)), List·getD-append p us 0 x k)) e
+
+-- with no step filled every rule holds
+pub holds-start : (c : Case) → holds c [] ≡ true
+unfolding holds rulesHold filled
+holds-start c = mem-all (λ r. not (filled r (λ i. ltb i 0)) || kept c r (λ i. 0)) (rules c) (λ r m. rw (leb·suc-zero (r .step .0)))

@@ -1,0 +1,148 @@
+// The case: people, roles, steps, relation tables and rules, with its limits. It knows sets and games, and nothing of files or searches.
+use sets::People;
+use sets::holds;
+
+ghost use mathlib.Core.Path.{_≡_};
+ghost use Rattle.sets.specs.Sets.{setOf};
+ghost use Rattle.sets.specs.Stored.{width, number};
+ghost use Rattle.cases.specs.Case.{emptyCase, mostSteps};
+ghost use Rattle.cases.specs.Rules.{keepersOf};
+ghost use Rattle.cases.specs.Pairs.{Gathered};
+
+// A person's number. Persons and steps both count from 0, and neither stands where the other is due.
+pub struct Person(pub u8);
+
+// A step's number.
+pub struct Step(pub u8);
+
+// How many entries of each kind are in use. Entries above a count read as zero.
+pub struct Counts {
+    pub people: u16,
+    pub steps: u16,
+    pub roles: u16,
+    pub tables: u16,
+    pub rules: u16,
+}
+
+// A step: the set of roles that may do it, the set of steps that must precede it, and the file's spare byte, which is 0 in a good case.
+pub struct StepEntry {
+    pub roles: u16,
+    pub before: u8,
+    pub spare: u8,
+}
+
+// A rule: its form (1 to 3), its relation, its step s, and its set X of steps, bit x for step x.
+pub struct Rule {
+    pub form: u8,
+    pub relation: u8,
+    pub step: Step,
+    pub group: u8,
+}
+
+// A case. A person is a set of roles, bit r for role r. The tables' rows stand table by table, in each one row per person.
+pub struct Case {
+    pub counts: Counts,
+    pub people: [u16; Case::PEOPLE],
+    pub steps: [StepEntry; Case::STEPS],
+    pub rows: [People; Case::ROWS],
+    pub rules: [Rule; Case::RULES],
+}
+
+impl Case {
+    pub const PEOPLE: usize = 32;
+
+    pub const STEPS: usize = 8;
+
+    pub const ROLES: usize = 16;
+
+    pub const TABLES: usize = 6;
+
+    pub const RULES: usize = 32;
+
+    // One row for each person of each table.
+    pub const ROWS: usize = Case::TABLES * Case::PEOPLE;
+
+    // The case with nothing in it: every count and every entry is 0.
+    pub fn empty() -> Case
+        ensures { λ r. ⌜ r ≡ emptyCase ⌝ }
+    {
+        let counts = Counts {
+            people: 0,
+            steps: 0,
+            roles: 0,
+            tables: 0,
+            rules: 0,
+        };
+        let step = StepEntry {
+            roles: 0,
+            before: 0,
+            spare: 0,
+        };
+        let first = Step(0);
+        let rule = Rule {
+            form: 0,
+            relation: 0,
+            step: first,
+            group: 0,
+        };
+        let nobody = People::none();
+        let people = [0u16; Case::PEOPLE];
+        let steps = [step; Case::STEPS];
+        let rows = [nobody; Case::ROWS];
+        let rules = [rule; Case::RULES];
+        Case {
+            counts: counts,
+            people: people,
+            steps: steps,
+            rows: rows,
+            rules: rules,
+        }
+    }
+}
+
+// The people with whom every pair of a rule is in the relation, and those with whom some pair is.
+struct Paired {
+    every: People,
+    some: People,
+}
+
+// The test of a single rule, for everybody at once: of the people who could do one more step, those with whom the rule is kept. `pairs[x]` are the
+// people with whom the pair of s and step x is in the relation. Forms 1 and 3 ask for the pair with every step of X, form 2 for some pair.
+pub fn keepers(form: u8, group: u8, pairs: [People; Case::STEPS]) -> People
+    ensures { λ r. ⌜ number r ≡ keepersOf form group pairs ⌝ }
+{
+    let p = over_group(group, pairs);
+    let two = everybody_if(form == 2);
+    p.every.difference(two).joined(p.some.common(two))
+}
+
+// Everybody, or nobody.
+fn everybody_if(wanted: bool) -> People
+    ensures { λ r. ⌜ number r ≡ setOf (λ u. wanted) width ⌝ }
+{
+    if wanted {
+        People::everybody(People::WIDTH)
+    } else {
+        People::none()
+    }
+}
+
+// Goes over the steps of X.
+fn over_group(group: u8, pairs: [People; Case::STEPS]) -> Paired
+    ensures { λ r. ⌜ Gathered group pairs mostSteps (r .every) (r .some) ⌝ }
+{
+    let mut every = everybody_if(true);
+    let mut some = everybody_if(false);
+    let mut x: u8 = 0;
+    while x < 8 {
+        let here = pairs[x as usize];
+        let listed = holds(group as u16, x);
+        x += 1;
+        if !listed {
+            continue;
+        }
+        every = every.common(here);
+        some = some.joined(here);
+    }
+    Paired { every: every, some: some }
+}

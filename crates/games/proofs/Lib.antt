@@ -1,0 +1,9 @@
+-- The theorems of `games`, in reading order; the laws that they rest on come first.
+pub mod Searches
+pub mod Verdicts
+pub mod Good
+pub mod Chain
+pub mod Limits
+pub mod Play
+pub mod Trials
+pub mod Matched

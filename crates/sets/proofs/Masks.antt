@@ -1,0 +1,91 @@
+-- What the operations on one word of n bits make of the sets that it stores, for every n.
+use mathlib.Core.Path.{_≡_, refl, sym, ap, _∙_}
+use mathlib.Core.Bool.{Bool, true, false, not, _&&_, _||_, true≢false}
+use Prim.Native.Nat.{ℕ, _-_, _*_, _%_, _^_, _≤_, _<_, min}
+use native.Mathlib.Nat.{le-refl, one-mul, min-le-right, min-eq-left, min-eq-right, lt-of-lt-of-le}
+use native.Mathlib.Decide.{decLt}
+use native.Mathlib.Omega.{arith}
+use borrow.Author.Tests.{lt-ltb, le-ltb, eq-eqb, ne-eqb}
+use lib.Bits.{bitAnd, bitOr, and-lt, or-lt}
+use lib.Dec.{ltb, eqb}
+use lib.Pow.{pow-pos, pow-mono, pow-lt, ones-lt, ones-sub-lt, shl-exact}
+use Rattle.sets.specs.Sets.{has, setOf, within, meets, with, without, common, joined, difference, everybody}
+use Rattle.sets.proofs.Lists.{and-true, true-and}
+use Rattle.sets.proofs.Bits.{has-beyond, has-empty, has-power, has-and, has-or}
+use Rattle.sets.proofs.Counting.{has-setOf, setOf-ext, set-ext, is-setOf, has-not, has-ones}
+use Rattle.sets.proofs.Listed.{within-mem, mem-within, meets-mem, mem-meets}
+
+-- ---- one person, and the first m
+
+pub shl-one : (n v : ℕ) → v < n → (1 * 2 ^ v) % 2 ^ n ≡ 2 ^ v
+shl-one n v h = shl-exact 1 v n (le-refl 2) (omega arith) ∙ one-mul (2 ^ v)
+
+pub alone-is : (n v : ℕ) → v < n → 2 ^ v ≡ setOf (λ w. eqb w v) n
+alone-is n v h = is-setOf (λ w. eqb w v) n (2 ^ v) (pow-lt h) (λ w l. has-power v w)
+
+pub alone-nobody : (n v : ℕ) → n ≤ v → 0 ≡ setOf (λ w. eqb w v) n
+alone-nobody n v h = is-setOf (λ w. eqb w v) n 0 (pow-pos n) (λ w l. has-empty w ∙ sym (ne-eqb w v (λ e. omega arith)))
+
+pub everybody-is : (n m : ℕ) → 2 ^ min m n - 1 ≡ everybody n m
+everybody-is n m = is-setOf (λ w. ltb w m) n (2 ^ min m n - 1) (lt-of-lt-of-le (ones-lt (min m n)) (pow-mono (min-le-right m n))) (λ v l. go v l (decLt v m))
+  where
+    go : (v : ℕ) → v < n → Dec (v < m) → has (2 ^ min m n - 1) v ≡ ltb v m
+    go v l (yes k) = has-ones (min m n) v (omega arith) ∙ sym (lt-ltb v m k)
+    go v l (no k) = has-beyond (min m n) (2 ^ min m n - 1) v (ones-lt (min m n)) (omega arith) ∙ sym (le-ltb v m (omega arith))
+
+pub everybody-low : (n m : ℕ) → m ≤ n → 2 ^ m - 1 ≡ everybody n m
+everybody-low n m h = ap (λ (k : ℕ). 2 ^ k - 1) (sym (min-eq-left h)) ∙ everybody-is n m
+
+pub everybody-all : (n m : ℕ) → n ≤ m → 2 ^ n - 1 ≡ everybody n m
+everybody-all n m h = ap (λ (k : ℕ). 2 ^ k - 1) (sym (min-eq-right h)) ∙ everybody-is n m
+
+-- ---- two sets
+
+module _ (n a b : ℕ) (p : a < 2 ^ n) (q : b < 2 ^ n) where
+  pub common-is : bitAnd a b ≡ common n a b
+  common-is = is-setOf (λ w. has a w && has b w) n (bitAnd a b) (and-lt n a b p q) (λ v l. has-and a b v)
+
+  pub joined-is : bitOr a b ≡ joined n a b
+  joined-is = is-setOf (λ w. has a w || has b w) n (bitOr a b) (or-lt n a b p q) (λ v l. has-or a b v)
+
+  pub difference-is : bitAnd a (2 ^ n - 1 - b) ≡ difference n a b
+  difference-is =
+      is-setOf (λ w. has a w && not (has b w)) n (bitAnd a (2 ^ n - 1 - b)) (and-lt n a (2 ^ n - 1 - b) p (ones-sub-lt n b))
+      (λ v l. has-and a (2 ^ n - 1 - b) v ∙ ap (λ (x : Bool). has a v && x) (has-not n b v q l))
+
+  pub within-is : eqb (bitAnd a b) a ≡ within n a b
+  within-is = go (within n a b) refl
+    where
+      both : (x y : Bool) → (x ≡ true → y ≡ true) → x && y ≡ x
+      both true y h = h refl
+      both false y h = refl
+
+      go : (r : Bool) → within n a b ≡ r → eqb (bitAnd a b) a ≡ r
+      go true e = eq-eqb (bitAnd a b) a (set-ext n (bitAnd a b) a (and-lt n a b p q) p (λ v l. has-and a b v ∙ both (has a v) (has b v) (within-mem n a b e v l)))
+      go false e =
+          ne-eqb (bitAnd a b) a
+          (λ k. true≢false (sym (mem-within n a b (λ v l h. and-true (has a v) (has b v) (sym (has-and a b v) ∙ ap (λ (x : ℕ). has x v) k ∙ h) .1)) ∙ e))
+
+  pub meets-is : not (eqb (bitAnd a b) 0) ≡ meets n a b
+  meets-is = go (meets n a b) refl
+    where
+      shared : (v : ℕ) → has (bitAnd a b) v ≡ true → (has a v ≡ true) × (has b v ≡ true)
+      shared v e = and-true (has a v) (has b v) (sym (has-and a b v) ∙ e)
+
+      nobody : meets n a b ≡ false → (v : ℕ) → v < n → (r : Bool) → has (bitAnd a b) v ≡ r → r ≡ has 0 v
+      nobody e v l true k = let m = shared v k in absurd (true≢false (sym (mem-meets n a b v l (m .0) (m .1)) ∙ e))
+      nobody e v l false k = sym (has-empty v)
+
+      go : (r : Bool) → meets n a b ≡ r → not (eqb (bitAnd a b) 0) ≡ r
+      go true e =
+          let m = meets-mem n a b e in
+          ap not (ne-eqb (bitAnd a b) 0 (λ k. true≢false (sym (has-and a b (m .0) ∙ true-and (has a (m .0)) (has b (m .0)) (m .2) (m .3)) ∙ ap (λ (x : ℕ). has x (m .0)) k ∙ has-empty (m .0))))
+      go false e = ap not (eq-eqb (bitAnd a b) 0 (set-ext n (bitAnd a b) 0 (and-lt n a b p q) (pow-pos n) (λ v l. nobody e v l (has (bitAnd a b) v) refl)))
+
+-- ---- one person more or fewer
+
+pub with-is : (n s v : ℕ) → joined n s (setOf (λ w. eqb w v) n) ≡ with n s v
+with-is n s v = setOf-ext (λ w. has s w || has (setOf (λ u. eqb u v) n) w) (λ w. has s w || eqb w v) n (λ w l. ap (λ (b : Bool). has s w || b) (has-setOf (λ u. eqb u v) n w l))
+
+pub without-is : (n s v : ℕ) → difference n s (setOf (λ w. eqb w v) n) ≡ without n s v
+without-is n s v = setOf-ext (λ w. has s w && not (has (setOf (λ u. eqb u v) n) w)) (λ w. has s w && not (eqb w v)) n (λ w l. ap (λ (b : Bool). has s w && not b) (has-setOf (λ u. eqb u v) n w l))
