@@ -53,8 +53,7 @@ module _ (c : Case) where
   kept-below : (r : Rule) (who : ℕ → ℕ) → kept (below c) r who ≡ kept c r who
   unfolding kept
   kept-below r who =
-      needed-cong (r .form) (λ x. related (below c) (r .relation) (who (r .step .0)) (who x)) (λ x. related c (r .relation) (who (r .step .0)) (who x)) (stepsIn (r .group))
-      (λ x m. related-below (r .relation) (who (r .step .0)) (who x))
+      needed-cong (r .form) _ _ (stepsIn (r .group)) (λ x m. related-below (r .relation) _ _)
 
   rules-below : rules (below c) ≡ rules c
   unfolding below rules

@@ -7,7 +7,7 @@ use borrow.Author.Tests.{lt-ltb}
 use lib.Dec.{eqb, ltb}
 use lib.ListN.{getD}
 use lib.Pow.{pow-pos}
-use Rattle.sets.specs.Lists.{pick, all, any}
+use Rattle.sets.specs.Lists.{pick, from, upto, keep, all, any}
 use Rattle.sets.specs.Sets.{has, setOf, members, common, joined, difference, everybody}
 use Rattle.sets.specs.Stored.{width, number, noPeople}
 use Rattle.sets.specs.declared.People.{People}
@@ -48,7 +48,7 @@ module _ (group : ℕ) (pairs : List People) where
 
   -- before the first step
   pub gathered-start : (every some : People) → number every ≡ setOf (λ u. true) width → number some ≡ setOf (λ u. false) width → Gathered group pairs 0 every some
-  unfolding members all any
+  unfolding from upto keep members all any
   gathered-start every some e f = record { each = e; one = f }
 
   module _ {every some : People} {x : ℕ} (g : Gathered group pairs x every some) where
@@ -87,10 +87,10 @@ module _ (group : ℕ) (pairs : List People) where
   unfolding keepersOf needed stepsIn
   keepers-are form {every} {some} two out less both g t l b e =
       e ∙ setOf-ext _ _ width (λ u h.
-        ap₂ _||_
-        (has-of less (λ w. has (number every) w && not (has two w)) l u h ∙ ap₂ (λ (x y : Bool). x && not y) (has-of (number every) (everyUpto mostSteps) (g .each) u h) (is-two u h))
-        (has-of both (λ w. has (number some) w && has two w) b u h ∙ ap₂ _&&_ (has-of (number some) (someUpto mostSteps) (g .one) u h) (is-two u h))
-        ∙ choose (eqb form 2) (everyUpto mostSteps u) (someUpto mostSteps u))
+      ap₂ _||_
+      (has-of less (λ w. has (number every) w && not (has two w)) l u h ∙ ap₂ (λ (x y : Bool). x && not y) (has-of (number every) (everyUpto mostSteps) (g .each) u h) (is-two u h))
+      (has-of both (λ w. has (number some) w && has two w) b u h ∙ ap₂ _&&_ (has-of (number some) (someUpto mostSteps) (g .one) u h) (is-two u h))
+      ∙ choose (eqb form 2) (everyUpto mostSteps u) (someUpto mostSteps u))
     where
       is-two : (u : ℕ) → u < width → has two u ≡ eqb form 2
       is-two u h = has-of two (λ w. eqb form 2) t u h

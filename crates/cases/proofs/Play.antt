@@ -212,7 +212,7 @@ module _ (c : Case) where
       let s = round-placed c A p (e .0) v (e .1) in
       let there : getD (Bs ++ A ∷ As) (length p) 0 ≡ A = getD-at Bs A As 0 (length p) (sym l) in
       let here : Present (Bs ++ A ∷ As) (p ++ (s .person ∷ [])) =
-          snoc-each c (λ x i. has (getD (Bs ++ A ∷ As) i 0) x ≡ false) p (s .person) w (ap (λ (B : ℕ). has B (s .person)) there ∙ s .present) in
+      snoc-each c (λ x i. has (getD (Bs ++ A ∷ As) i 0) x ≡ false) p (s .person) w (ap (λ (B : ℕ). has B (s .person)) there ∙ s .present) in
       let long : length (e .0) ≡ length (Bs ++ (A ∷ [])) = omega (arith, ap length (s .next), length-append p (s .person ∷ []), length-append Bs (A ∷ [])) in
       let one : Bs ++ (A ∷ []) ++ As ≡ Bs ++ A ∷ As = append-snoc Bs A As in
       let r = rounds-valid As (Bs ++ (A ∷ [])) (e .0) q (s .valid) (subst₂ Present (sym one) (sym (s .next)) here) long (e .2) in
@@ -252,9 +252,9 @@ module _ (c : Case) where
       one-more k left b =
           let few = good-few (chain c) t k (take i q) .0 (subst (λ j. good (chain c) t j (take i q) ≡ false) left b) in
           let named : awayAt c t (take i q) .got ≡ some (goodPeople (chain c) t k (take i q)) =
-              ap (λ (j : ℕ). away (chain c) t j (take i q) .got) (omega (arith, length-take i q)) ∙ away-some (chain c) t k (take i q) .1 few in
+          ap (λ (j : ℕ). away (chain c) t j (take i q) .got) (omega (arith, length-take i q)) ∙ away-some (chain c) t k (take i q) .1 few in
           let s : Placed c (goodPeople (chain c) t k (take i q)) (take i q) (take (suc i) q) =
-              record { person = u; present = d i h (goodPeople (chain c) t k (take i q)) named; next = grown; valid = prefix (suc i) } in
+          record { person = u; present = d i h (goodPeople (chain c) t k (take i q)) named; next = grown; valid = prefix (suc i) } in
           good-away (chain c) t k (take i q) (take (suc i) q) (placed-round c (goodPeople (chain c) t k (take i q)) (take i q) (take (suc i) q) s)
 
   -- A no can be played: whatever valid position a desk comes to with the people that away names away in each round, it is short of a plan, and

@@ -18,7 +18,7 @@ use Rattle.cases.specs.Plans.{holds}
 -- what is needed of the members of X goes by what holds of each
 pub needed-cong : (form : ℕ) (f g : ℕ → Bool) (xs : List ℕ) → ((x : ℕ) → x ∈ xs → f x ≡ g x) → needed form f xs ≡ needed form g xs
 unfolding needed
-needed-cong form f g xs h = ap₂ (λ (a b : Bool). pick (eqb form 2) a b) (any-cong f g xs h) (all-cong f g xs h)
+needed-cong form f g xs h = cc (any-cong f g xs h, all-cong f g xs h)
 
 -- what is filled in d is filled in e, and by the same person
 abbrev pub Fewer : (ℕ → Bool) → (ℕ → ℕ) → (ℕ → Bool) → (ℕ → ℕ) → Type 0
@@ -35,8 +35,7 @@ module _ (c : Case) (d e : ℕ → Bool) (v w : ℕ → ℕ) (less : Fewer d v e
   unfolding filled kept
   kept-fewer r h =
       let k = and-true (d (r .step .0)) (all d (stepsIn (r .group))) h in
-      needed-cong (r .form) (λ x. related c (r .relation) (w (r .step .0)) (w x)) (λ x. related c (r .relation) (v (r .step .0)) (v x)) (stepsIn (r .group))
-      (λ x m. ap₂ (related c (r .relation)) (less (r .step .0) (k .0) .1) (less x (all-mem d (stepsIn (r .group)) (k .1) x m) .1))
+      needed-cong (r .form) _ _ (stepsIn (r .group)) (λ x m. cc (less (r .step .0) (k .0) .1, less x (all-mem d (stepsIn (r .group)) (k .1) x m) .1))
 
   one-fewer : (r : Rule) → not (filled r e) || kept c r w ≡ true → not (filled r d) || kept c r v ≡ true
   one-fewer r h = go (filled r d) refl

@@ -1,21 +1,24 @@
--- The scope's worked examples, as rows of one table that is computed from the definitions: the twelve entries of the campfire's table, with shown
--- sets and trials, and the three rule cases.
+-- The scope's worked examples, as the rows of one table that is computed from the definitions: the twelve entries of the campfire's table, with
+-- shown sets and trials, and the three rule cases. Everything else that the scope works out is run and compared.
 use mathlib.Core.Path.{_≡_, refl}
 use mathlib.Core.Option.{Option, none, some}
 use mathlib.Core.Bool.{Bool, true, false}
-use mathlib.Core.List.{List, [], _∷_, _++_, map}
-use Prim.Native.Nat.{ℕ, zero, suc}
+use mathlib.Core.List.{List, [], _∷_, map}
+use Prim.Native.Nat.{ℕ}
 use lib.ListN.{getD, replicate}
-use Rattle.sets.specs.Sets.{members}
-use Rattle.sets.specs.declared.People.{People}
-use Rattle.sets.specs.Stored.{stored, noPeople}
-use Rattle.games.specs.Walks.{Walk, Search, plan, static, decremental, dynamic}
+use Rattle.sets.specs.Lists.{from, upto, keep, all, any}
+use Rattle.sets.specs.Sets.{has, count, setFrom, size, members, within, sets}
+use Rattle.sets.specs.Stored.{number, stored, noPeople}
+use Rattle.games.specs.Walks.{plus, orElse, seek, try, ifNone, mark, tally, tooFew, present, tries, desk, plan, static, decremental, dynamic}
 use Rattle.games.specs.Limit.{Ended, limit, ended, Answer, cut}
 use Rattle.cases.specs.declared.Rule.{Rule}
 use Rattle.cases.specs.declared.Case.{Case}
-use Rattle.cases.specs.Case.{people, zeroStep, zeroRule}
-use Rattle.cases.specs.Rules.{kept}
+use Rattle.cases.specs.Case.{people, rolesHeld, rolesFor, table, row, rules, zeroStep, zeroRule}
+use Rattle.cases.specs.Rules.{related, stepsIn, needed, filled, kept, rulesHold}
+use Rattle.cases.specs.Plans.{may, holds}
 use Rattle.cases.specs.Chain.{offers, place, planOf, staticOf, decrementalOf, dynamicOf}
+
+-- ---- The two cases
 
 -- Three people with roles {0}, {0,1}, {1}; step 0 for role 0; step 1 for role 1 and after step 0; one rule: form 1, "different person", s = 1, X = {0}.
 abbrev pub campfire : Case
@@ -28,7 +31,7 @@ campfire =
       rules = record { form = 1; relation = 1; step = record { 0 = 1 }; group = 1 } ∷ replicate 31 zeroRule;
     }
 
--- Three people, three steps, one table {(0, 1)}; a rule of some form with that table, s = 2, X = {0, 1}.
+-- One table, {(0,1)}, over three people and three steps; and a rule with it: s = 2, X = {0,1}.
 abbrev pub oneTable : Case
 oneTable =
     record {
@@ -39,80 +42,69 @@ oneTable =
       rules = replicate 32 zeroRule;
     }
 
-abbrev pub formed : ℕ → Rule
-formed f = record { form = f; relation = 2; step = record { 0 = 2 }; group = 3 }
+abbrev pub ruleOf : ℕ → Rule
+ruleOf form = record { form = form; relation = 2; step = record { 0 = 2 }; group = 3 }
 
--- ---- the rows
+-- ---- What is asked, and what is said
 
--- what is asked: a question of the campfire at t, or a rule of some form at a position
+-- a question of the campfire at t, under a limit of 1000; or whether a position keeps the rule of a form
 pub data Asked : Type 0 where
   plan? static? decremental? dynamic? : ℕ → Asked
-  kept? : ℕ → List ℕ → Asked
+  keeps? : ℕ → List ℕ → Asked
 
--- what is said: a plan or a shown set, as a list of persons, or a plain yes or no; with the trials
+-- a plan's persons, or a shown set's, with the trials
 pub data Said : Type 0 where
-  yes-plan : List ℕ → ℕ → Said
-  yes-after : ℕ → Said
-  no-showing : List ℕ → ℕ → Said
-  stopped-at : ℕ → Said
+  planned showing : List ℕ → ℕ → Said
+  wins stops : ℕ → Said
   keeps breaks : Said
 
-pub saidPlan : Answer (Option (List ℕ)) → Said
-saidPlan a = go (a .out)
-  where
-    go : Ended (Option (List ℕ)) → Said
-    go limit = stopped-at (a .count)
-    go (ended none) = no-showing [] (a .count)
-    go (ended (some q)) = yes-plan q (a .count)
+pub sayPlan : Ended (Option (List ℕ)) → ℕ → Said
+sayPlan limit n = stops n
+sayPlan (ended none) n = showing [] n
+sayPlan (ended (some q)) n = planned q n
 
-pub saidVerdict : Answer (Option ℕ) → Said
-saidVerdict a = go (a .out)
-  where
-    go : Ended (Option ℕ) → Said
-    go limit = stopped-at (a .count)
-    go (ended none) = yes-after (a .count)
-    go (ended (some A)) = no-showing (members (people campfire) A) (a .count)
+pub sayVerdict : Ended (Option ℕ) → ℕ → Said
+sayVerdict limit n = stops n
+sayVerdict (ended none) n = wins n
+sayVerdict (ended (some A)) n = showing (members (people campfire) A) n
 
-pub saidRule : Bool → Said
-saidRule true = keeps
-saidRule false = breaks
+pub sayRule : Bool → Said
+sayRule true = keeps
+sayRule false = breaks
 
 pub answer : Asked → Said
-unfolding saidPlan saidVerdict saidRule cut plan static decremental dynamic offers place kept members
-answer (plan? t) = saidPlan (cut 1000 (planOf campfire))
-answer (static? t) = saidVerdict (cut 1000 (staticOf campfire t))
-answer (decremental? t) = saidVerdict (cut 1000 (decrementalOf campfire t))
-answer (dynamic? t) = saidVerdict (cut 1000 (dynamicOf campfire t))
-answer (kept? f p) = saidRule (kept oneTable (formed f) (λ i. getD p i 0))
+unfolding
+    from upto keep all any has count setFrom size members within sets number
+    plus orElse seek try ifNone mark tally tooFew present tries desk plan static decremental dynamic cut
+    rolesHeld rolesFor table row rules related stepsIn needed filled kept rulesHold may holds offers place
+    sayPlan sayVerdict sayRule
+answer (plan? t) = let a = cut 1000 (planOf campfire) in sayPlan (a .out) (a .count)
+answer (static? t) = let a = cut 1000 (staticOf campfire t) in sayVerdict (a .out) (a .count)
+answer (decremental? t) = let a = cut 1000 (decrementalOf campfire t) in sayVerdict (a .out) (a .count)
+answer (dynamic? t) = let a = cut 1000 (dynamicOf campfire t) in sayVerdict (a .out) (a .count)
+answer (keeps? form p) = sayRule (kept oneTable (ruleOf form) (λ i. getD p i 0))
 
-pub record Row : Type 0 where
+-- ---- The table
+
+pub record Entry : Type 0 where
   pub asked : Asked
   pub said : Said
 
-abbrev pub row : Asked → Said → Row
-row q a = record { asked = q; said = a }
+infix 40 _▸_
+abbrev pub _▸_ : Asked → Said → Entry
+q ▸ a = record { asked = q; said = a }
 
-pub table : List Row
-table =
-    row (plan? 0) (yes-plan (0 ∷ 1 ∷ []) 2)
-    ∷ row (static? 0) (yes-after 2)
-    ∷ row (decremental? 0) (yes-after 2)
-    ∷ row (dynamic? 0) (yes-after 2)
-    ∷ row (plan? 1) (yes-plan (0 ∷ 1 ∷ []) 2)
-    ∷ row (static? 1) (yes-after 9)
-    ∷ row (decremental? 1) (yes-after 12)
-    ∷ row (dynamic? 1) (no-showing (0 ∷ []) 6)
-    ∷ row (plan? 2) (yes-plan (0 ∷ 1 ∷ []) 2)
-    ∷ row (static? 2) (no-showing (0 ∷ 1 ∷ []) 7)
-    ∷ row (decremental? 2) (no-showing [] 15)
-    ∷ row (dynamic? 2) (no-showing [] 6)
-    ∷ row (kept? 3 (1 ∷ 1 ∷ 0 ∷ [])) keeps
-    ∷ row (kept? 3 (1 ∷ 2 ∷ 0 ∷ [])) breaks
-    ∷ row (kept? 2 (1 ∷ 2 ∷ 0 ∷ [])) keeps
-    ∷ row (kept? 2 (0 ∷ 0 ∷ 1 ∷ [])) breaks
+pub entries : List Entry
+entries =
+    (plan? 0 ▸ planned (0 ∷ 1 ∷ []) 2) ∷ (static? 0 ▸ wins 2) ∷ (decremental? 0 ▸ wins 2) ∷ (dynamic? 0 ▸ wins 2)
+    ∷ (plan? 1 ▸ planned (0 ∷ 1 ∷ []) 2) ∷ (static? 1 ▸ wins 9) ∷ (decremental? 1 ▸ wins 12) ∷ (dynamic? 1 ▸ showing (0 ∷ []) 6)
+    ∷ (plan? 2 ▸ planned (0 ∷ 1 ∷ []) 2) ∷ (static? 2 ▸ showing (0 ∷ 1 ∷ []) 7) ∷ (decremental? 2 ▸ showing [] 15) ∷ (dynamic? 2 ▸ showing [] 6)
+    ∷ (keeps? 3 (1 ∷ 1 ∷ 0 ∷ []) ▸ keeps)
+    ∷ (keeps? 3 (1 ∷ 2 ∷ 0 ∷ []) ▸ breaks) ∷ (keeps? 2 (1 ∷ 2 ∷ 0 ∷ []) ▸ keeps)
+    ∷ (keeps? 2 (0 ∷ 0 ∷ 1 ∷ []) ▸ breaks)
     ∷ []
 
--- every row says what the definitions come to
-pub worked : map (λ r. answer (r .asked)) table ≡ map (λ r. r .said) table
-unfolding answer table
+-- every entry says what the definitions come to
+pub worked : map (λ e. answer (e .asked)) entries ≡ map (λ e. e .said) entries
+unfolding answer entries
 worked = refl

@@ -74,7 +74,6 @@ module _ (c : Case) where
 
   -- the row of person u in table k: those v for whom (u, v) is in the relation
   unfoldable pub row : ℕ → ℕ → ℕ
-  unfolding number table
   row k u = number (getD (table k) u noPeople)
 
   unfoldable pub rules : List Rule

@@ -16,12 +16,10 @@ use Rattle.cases.specs.Plans.{may, holds}
 module _ (c : Case) where
   -- a move is a person: one trial where they may do the next step, else none
   unfoldable pub offers : List ℕ → ℕ → List ℕ
-  unfolding may
   offers p u = consIf (may c u (length p)) u []
 
   -- the position with one person more, none where a rule breaks
   unfoldable pub place : List ℕ → ℕ → Option (List ℕ)
-  unfolding holds
   place p u = onlyIf (holds c (p ++ (u ∷ []))) (p ++ (u ∷ []))
 
   abbrev pub chain : Arena

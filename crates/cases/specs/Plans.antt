@@ -13,12 +13,10 @@ use Rattle.cases.specs.Rules.{rulesHold}
 
 -- A person may do a step when one of their roles is among the step's roles.
 unfoldable pub may : Case → ℕ → ℕ → Bool
-unfolding any upto has rolesHeld rolesFor
 may c u s = any (λ r. has (rolesHeld c u) r && has (rolesFor c s) r) (upto (roles c))
 
 -- A position is a list of persons for the first steps: every rule, all of whose steps are filled, holds at it.
 unfoldable pub holds : Case → List ℕ → Bool
-unfolding rulesHold
 holds c p = rulesHold c (λ i. ltb i (length p)) (λ i. getD p i 0)
 
 -- It is valid when each may do their step and every rule, all of whose steps are filled, holds.

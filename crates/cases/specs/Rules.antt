@@ -14,37 +14,30 @@ use Rattle.cases.specs.Case.{mostSteps, row, rules}
 
 -- Relation 0 is "same person", 1 is "different person", 2 and up are the file's tables.
 unfoldable pub related : Case → ℕ → ℕ → ℕ → Bool
-unfolding row has
 related c zero u v = eqb u v
 related c (suc zero) u v = not (eqb u v)
 related c (suc (suc k)) u v = has (row c k u) v
 
 -- the steps in a set of steps, ascending
 unfoldable pub stepsIn : ℕ → List ℕ
-unfolding members
 stepsIn x = members mostSteps x
 
 -- Forms 1 and 3 need it for every member of X, form 2 for some member.
 unfoldable pub needed : ℕ → (ℕ → Bool) → List ℕ → Bool
-unfolding all any
 needed form test xs = pick (eqb form 2) (any test xs) (all test xs)
 
 -- a rule's steps, s and X, are filled
 unfoldable pub filled : Rule → (ℕ → Bool) → Bool
-unfolding all stepsIn
 filled r isFilled = isFilled (r .step .0) && all isFilled (stepsIn (r .group))
 
 -- The pair tested is always (person of s, person of a member of X).
 unfoldable pub kept : Case → Rule → (ℕ → ℕ) → Bool
-unfolding needed related stepsIn
 kept c r who = needed (r .form) (λ x. related c (r .relation) (who (r .step .0)) (who x)) (stepsIn (r .group))
 
 -- every rule, all of whose steps are filled, holds
 unfoldable pub rulesHold : Case → (ℕ → Bool) → (ℕ → ℕ) → Bool
-unfolding all rules filled kept
 rulesHold c isFilled who = all (λ r. not (filled r isFilled) || kept c r who) (rules c)
 
 -- The test of a single rule for everybody at once, where pair x holds with the people of `pairs`, entry x: those with whom the rule is kept.
 unfoldable pub keepersOf : ℕ → ℕ → List People → ℕ
-unfolding setOf needed stepsIn number
 keepersOf form group pairs = setOf (λ u. needed form (λ x. has (number (getD pairs x noPeople)) u) (stepsIn group)) width

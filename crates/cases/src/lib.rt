@@ -1,7 +1,6 @@
 // The case: people, roles, steps, relation tables and rules, with its limits. It knows sets and games, and nothing of files or searches.
 use sets::People;
 use sets::holds;
-
 ghost use mathlib.Core.Path.{_≡_};
 ghost use Rattle.sets.specs.Sets.{setOf};
 ghost use Rattle.sets.specs.Stored.{width, number};
@@ -144,5 +143,8 @@ fn over_group(group: u8, pairs: [People; Case::STEPS]) -> Paired
         every = every.common(here);
         some = some.joined(here);
     }
-    Paired { every: every, some: some }
+    Paired {
+        every: every,
+        some: some,
+    }
 }

@@ -101,9 +101,9 @@ module _ (G : Arena) where
       let i = onlyIf-some (leb (length (found t k p)) t) (setFrom (found t k p)) A e in
       let few : goodCount t k p ≤ t = omega (arith, leb-true (length (found t k p)) t (i .0), found-length t k (judged t k) p) in
       let all : A ≡ goodPeople G t k p =
-          sym (i .1)
-          ∙ ap setFrom (found-is t k (judged t k) p ∙ take-all (suc t) (keep (canLeave G (good G t k) p) (upto (G .people))) (omega (arith, length-keep (canLeave G (good G t k) p) (G .people))))
-          ∙ setFrom-keep (canLeave G (good G t k) p) (G .people) in
+      sym (i .1)
+      ∙ ap setFrom (found-is t k (judged t k) p ∙ take-all (suc t) (keep (canLeave G (good G t k) p) (upto (G .people))) (omega (arith, length-keep (canLeave G (good G t k) p) (G .people))))
+      ∙ setFrom-keep (canLeave G (good G t k) p) (G .people) in
       record { all = all; few = few; absent = rw all (goodPeople-absent t k p few) }
 
   -- ---- counting agrees with the game

@@ -12,7 +12,7 @@ use Rattle.sets.specs.Sets.{has}
 use Rattle.sets.proofs.Lists.{any-cong}
 use Rattle.sets.proofs.Ascending.{Ascending, upto-ascending, keep-ascending, lower-before}
 use Rattle.games.specs.Arena.{Arena}
-use Rattle.games.specs.Walks.{Walk, Search, seek, try, ifNone, having, ifSome, present, dynamic, advice, away}
+use Rattle.games.specs.Walks.{Walk, Search, plus, seek, try, ifNone, having, ifSome, present, dynamic, advice, away}
 use Rattle.games.specs.Games.{Absent, Round, passes, canLeave, good, goodPeople}
 use Rattle.games.specs.Play.{AllAbsent, placed, onward, followed, Rounds, Stopped}
 use Rattle.games.proofs.Searches.{gets, gets-some, gets-none, having-some, Found, seek-gets, seek-found, seek-none, found-in, try-some, present-in, present-mem, round-canLeave}
@@ -36,7 +36,7 @@ module _ (G : Arena) where
 
         go : (m : G .Move) (o : Option (G .Pos)) → gets {B = ℕ × G .Move} (having (u, m) (try (unbeaten G t k) o .got)) ≡ passes G (good G t k) o
         go m none = unfold try in refl
-        go m (some q) = unfold try in (same {C = ℕ × G .Move} (u, m) (unbeaten G t k q .got) ∙ well G t k (judged G t k) q)
+        go m (some q) = unfold plus try in (same {C = ℕ × G .Move} (u, m) (unbeaten G t k q .got) ∙ well G t k (judged G t k) q)
 
     -- the person named: present, a move of theirs leaves a good position, and no lower present person's does
     pub record Advised (a : ℕ × G .Move) : Type 0 where
@@ -68,7 +68,7 @@ module _ (G : Arena) where
           wins = sym (well G t k (judged G t k) (q .0)) ∙ ap gets (q .2);
           lowest = λ v l h.
               let z = lower-before (u .before) (u .rest) (u .at) v (subst Ascending (u .split) (unfold present in keep-ascending _ (upto (G .people)) (upto-ascending (G .people))))
-                  (subst (λ xs. v ∈ xs) (u .split) (present-mem G A v (omega (arith, i .0)) h)) l in
+              (subst (λ xs. v ∈ xs) (u .split) (present-mem G A v (omega (arith, i .0)) h)) l in
               sym (about-gets v) ∙ gets-none (about v .got) .0 (u .missed v z);
         })
 

@@ -11,7 +11,7 @@ use Rattle.sets.specs.Lists.{_∈_, consIf, upto, keep, any}
 use Rattle.sets.specs.Sets.{has}
 use Rattle.sets.proofs.Lists.{keep-in, keep-mem, upto-in, upto-mem, any-cong, any-mem, mem-any}
 use Rattle.games.specs.Arena.{Arena}
-use Rattle.games.specs.Walks.{Walk, Search, orElse, seek, try, lacking, ifNone, having, ifSome, mark, tally, present, tries, desk}
+use Rattle.games.specs.Walks.{Walk, Search, plus, orElse, seek, try, lacking, ifNone, having, ifSome, mark, tally, present, tries, desk}
 use Rattle.games.specs.Games.{Round, passes, canLeave}
 
 -- ---- something or nothing
@@ -53,7 +53,7 @@ having-none c (some b) e = absurd (Option·some-ne-none c e)
 module _ {A B : Type 0} (f : A → Search B) where
   -- a search over a list gets something exactly if one of them does
   pub seek-gets : (xs : List A) → gets (seek f xs .got) ≡ any (λ x. gets (f x .got)) xs
-  unfolding seek any
+  unfolding plus orElse seek any
   seek-gets [] = refl
   seek-gets (x ∷ xs) = go (f x .got) (f x .trials) (seek-gets xs)
     where
@@ -72,7 +72,7 @@ module _ {A B : Type 0} (f : A → Search B) where
     pub hit : f at .got ≡ some b
 
   pub seek-found : (xs : List A) (b : B) → seek f xs .got ≡ some b → Found xs b
-  unfolding seek
+  unfolding plus orElse seek
   seek-found [] b e = absurd (Option·none-ne-some b e)
   seek-found (x ∷ xs) b e = go (seek-found xs b) (f x .got) refl e
     where
@@ -116,7 +116,7 @@ found-in f xs b h = subst (λ l. h .at ∈ l) (sym (h .split)) (split-mem (h .be
 
 module _ {P B : Type 0} (judge : P → Search B) where
   pub try-some : (o : Option P) (b : B) → try judge o .got ≡ some b → (q : P) × (o ≡ some q) × (judge q .got ≡ some b)
-  unfolding try
+  unfolding plus try
   try-some none b e = absurd (Option·none-ne-some b e)
   try-some (some q) b e = (q, refl, e)
 
@@ -163,7 +163,7 @@ module _ (G : Arena) where
     well q = gets (judge q .got)
 
     pub tries-gets : (p : G .Pos) (u : ℕ) → gets (tries G judge p u .got) ≡ canLeave G well p u
-    unfolding tries try canLeave
+    unfolding plus tries try canLeave
     tries-gets p u = seek-gets (λ m. try judge (G .after p m)) (G .moves p u) ∙ any-cong _ _ (G .moves p u) (λ m k. go (G .after p m))
       where
         go : (o : Option (G .Pos)) → gets (try judge o .got) ≡ passes G well o
@@ -187,12 +187,12 @@ module _ (G : Arena) where
             let r = k .1 in
             seek-gets (tries G judge p) (present G A)
             ∙ mem-any (λ v. gets (tries G judge p v .got)) (present G A) (r .person) (present-mem A (r .person) (r .listed) (r .present))
-              (tries-gets p (r .person) ∙ round-canLeave well A p (k .0) r (k .2))
+            (tries-gets p (r .person) ∙ round-canLeave well A p (k .0) r (k .2))
 
 -- ---- the tally: what it gets is the beginning of the whole list of those for whom something is got
 
 pub tally-keep : {B : Type 0} (f : ℕ → Search B) (us : List ℕ) (w : ℕ) → tally f us w .got ≡ take w (keep (λ u. gets (f u .got)) us)
-unfolding tally keep
+unfolding mark tally keep
 tally-keep f [] w = sym (take-nil w)
 tally-keep f (u ∷ us) zero = refl
 tally-keep {B} f (u ∷ us) (suc w) = go (λ v. tally-keep f us v) (f u .got)

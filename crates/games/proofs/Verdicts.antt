@@ -15,7 +15,7 @@ use Rattle.sets.proofs.Bits.{has-empty}
 use Rattle.sets.proofs.Counting.{size-empty}
 use Rattle.sets.proofs.Listed.{sets-mem, sets-in, within-mem, mem-within, sets-ascending}
 use Rattle.games.specs.Arena.{Arena}
-use Rattle.games.specs.Walks.{Walk, Search, seek, ifNone, lacking, present, tries, desk, try, plan, static, decremental}
+use Rattle.games.specs.Walks.{Walk, Search, plus, seek, ifNone, lacking, present, tries, desk, try, plan, static, decremental}
 use Rattle.games.specs.Games.{Absent, Contains, Line, Planned, Static, Decremental, Round, Earliest, First}
 use Rattle.games.proofs.Searches.{gets, gets-some, gets-none, gets-lacking, lacking-some, lacking-none, Found, seek-found, seek-none, found-in, split-mem, try-some, present-in, present-mem, tries-gets, round-canLeave, desk-wins}
 
@@ -79,7 +79,7 @@ module _ {B : Type 0} (f : ℕ → Search B) (n t c : ℕ) where
         nothing = s .0;
         first = λ x l b w.
             let i = lower-before (k .before) (k .rest) (k .at) x (subst Ascending (k .split) (sets-ascending n t c))
-                (subst (λ l. x ∈ l) (k .split) (absent-listed n t c x b w)) l in
+            (subst (λ l. x ∈ l) (k .split) (absent-listed n t c x b w)) l in
             lacking-none x (f x .got) (k .missed x i);
       })
 
@@ -119,7 +119,7 @@ module _ (G : Arena) where
       pub sooner : (m : G .Move) → m ∈ before → (s : G .Pos) → _≡_ {A = Option (G .Pos)} (G .after p m) (some s) → judge s .got ≡ none
 
     pub desk-turn : (b : B) → desk G judge A p .got ≡ some b → Turn b
-    unfolding desk tries present try
+    unfolding plus desk tries present try
     desk-turn b e =
         let u = seek-found (tries G judge p) (present G A) b e in
         let i = present-in G A (u .at) (found-in (tries G judge p) (present G A) b u) in
@@ -138,7 +138,7 @@ module _ (G : Arena) where
           hit = q .2;
           lower = λ s y l.
               let z = lower-before (u .before) (u .rest) (u .at) (y .person) (subst Ascending (u .split) (keep-ascending _ (upto (G .people)) (upto-ascending (G .people))))
-                  (subst (λ xs. y .person ∈ xs) (u .split) (present-mem G A (y .person) (y .listed) (y .present))) l in
+              (subst (λ xs. y .person ∈ xs) (u .split) (present-mem G A (y .person) (y .listed) (y .present))) l in
               rw (y .leaves) at (seek-none (λ x. try judge (G .after p x)) (G .moves p (y .person)) (u .missed (y .person) z) (y .move) (y .offered));
           before = m .before;
           behind = m .rest;

@@ -62,18 +62,15 @@ module _ (G : Arena) where
 
   -- person u can be placed so that the position left passes a test
   unfoldable pub canLeave : (G .Pos → Bool) → G .Pos → ℕ → Bool
-  unfolding any
   canLeave test p u = any (λ m. passes test (G .after p m)) (G .moves p u)
 
   -- A full position is good. Any other is good when more than t people can be placed that each leave a good position.
   unfoldable pub good : ℕ → ℕ → G .Pos → Bool
-  unfolding canLeave count
   good t zero p = true
   good t (suc k) p = ltb t (count (canLeave (good t k) p) (G .people))
 
   -- the people whose placing leaves a good position with k steps left
   unfoldable pub goodPeople : ℕ → ℕ → G .Pos → ℕ
-  unfolding canLeave setOf good
   goodPeople t k p = setOf (canLeave (good t k) p) (G .people)
 
   -- ---- The first plan in the walk's order

@@ -26,7 +26,6 @@ module _ (G : Arena) where
 
   -- the position that is come to, as many rounds on as there are sets; none where the advice is "none" on the way
   unfoldable pub followed : ℕ → List ℕ → G .Pos → Option (G .Pos)
-  unfolding advice
   followed t [] p = some p
   followed t (A ∷ As) p = onward (followed t As) (placed p (advice G t (suc (length As)) A p .got))
 

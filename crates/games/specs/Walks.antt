@@ -27,19 +27,16 @@ plus c w = record { got = w .got; trials = c + w .trials }
 module _ {B : Type 0} where
   -- what was got in c trials, or else what the rest gets
   unfoldable pub orElse : Option B → ℕ → (Unit {0} → Search B) → Search B
-  unfolding plus
   orElse (some b) c rest = record { got = some b; trials = c }
   orElse none c rest = plus c (rest tt)
 
   -- go over a list, and stop at the first that gets something
   unfoldable pub seek : {A : Type 0} → (A → Search B) → List A → Search B
-  unfolding orElse
   seek f [] = record { got = none; trials = 0 }
   seek f (x ∷ xs) = let w = f x in orElse (w .got) (w .trials) (λ _. seek f xs)
 
   -- a trial: it is counted also when a rule breaks; where none does, the position that it leaves is judged
   unfoldable pub try : {P : Type 0} → (P → Search B) → Option P → Search B
-  unfolding plus
   try judge none = record { got = none; trials = 1 }
   try judge (some q) = plus 1 (judge q)
 
@@ -65,14 +62,12 @@ module _ {B : Type 0} where
   mark none c u rest w = let r = rest (suc w) in record { got = r .got; trials = c + r .trials }
 
   unfoldable pub tally : (ℕ → Search B) → List ℕ → ℕ → Walk (List ℕ)
-  unfolding mark
   tally f [] w = record { got = []; trials = 0 }
   tally f (u ∷ us) zero = record { got = []; trials = 0 }
   tally f (u ∷ us) (suc w) = let r = f u in mark (r .got) (r .trials) u (λ v. tally f us v) w
 
 -- the set of the people found, where they are at most t
 unfoldable pub tooFew : ℕ → Walk (List ℕ) → Search ℕ
-unfolding setFrom
 tooFew t w = record { got = onlyIf (leb (length (w .got)) t) (setFrom (w .got)); trials = w .trials }
 
 -- ---- The walks. Verdicts have one type: nothing got, the desk wins; a set got, it does not, and the set is shown.
@@ -80,52 +75,43 @@ tooFew t w = record { got = onlyIf (leb (length (w .got)) t) (setFrom (w .got));
 module _ (G : Arena) where
   -- everybody but the members of A, ascending
   unfoldable pub present : ℕ → List ℕ
-  unfolding keep has upto
   present A = keep (λ u. not (has A u)) (upto (G .people))
 
   -- person u is tried from p: u's first move that leaves a position judged well
   unfoldable pub tries : {B : Type 0} → (G .Pos → Search B) → G .Pos → ℕ → Search B
-  unfolding seek try
   tries judge p u = seek (λ m. try judge (G .after p m)) (G .moves p u)
 
   -- a turn of the desk with A away: the first person who leaves a position judged well
   unfoldable pub desk : {B : Type 0} → (G .Pos → Search B) → ℕ → G .Pos → Search B
-  unfolding seek tries present
   desk judge A p = seek (tries judge p) (present A)
 
   -- Plan: depth first, stop at the first plan. A is away throughout, and k steps are left.
   unfoldable pub plan : ℕ → ℕ → G .Pos → Search (G .Pos)
-  unfolding desk
   plan A zero p = record { got = some p; trials = 0 }
   plan A (suc k) p = desk (plan A k) A p
 
   -- Static: sets in ascending number, a plan walk each, stop at the first set without a plan.
   unfoldable pub static : ℕ → ℕ → G .Pos → Search ℕ
-  unfolding seek ifNone plan sets
   static t k p = seek (λ A. ifNone A (plan A k p)) (sets (G .people) t 0)
 
   -- Decremental: a turn of the away side goes over the sets of at most t people that contain c, in ascending number, and stops at the first
   -- that beats the desk. A turn of the desk stops at the first person who leaves a position at which the next turn of the away side gets no set.
   unfoldable pub decremental : ℕ → ℕ → ℕ → G .Pos → Search ℕ
-  unfolding seek ifNone desk sets
   decremental t zero c p = record { got = none; trials = 0 }
   decremental t (suc k) c p =
       seek (λ A. ifNone A (desk (λ q. ifNone (tt {0}) (decremental t k A q)) A p)) (sets (G .people) t c)
 
   -- Dynamic: everybody is present. The people who leave a good position are found, up to t + 1 of them; where they are at most t they are shown.
   unfoldable pub dynamic : ℕ → ℕ → G .Pos → Search ℕ
-  unfolding tally tries upto ifNone tooFew
   dynamic t zero p = record { got = none; trials = 0 }
   dynamic t (suc k) p = tooFew t (tally (tries (λ q. ifNone (tt {0}) (dynamic t k q)) p) (upto (G .people)) (suc t))
 
   -- Advice: the lowest present person, with the move, whose placing leaves a good position. A is away in this round only.
   unfoldable pub advice : ℕ → ℕ → ℕ → G .Pos → Search (ℕ × G .Move)
-  unfolding seek try ifNone ifSome present dynamic
   advice t zero A p = record { got = none; trials = 0 }
   advice t (suc k) A p =
       seek (λ u. seek (λ m. ifSome (u, m) (try (λ q. ifNone (tt {0}) (dynamic t k q)) (G .after p m))) (G .moves p u)) (present A)
 
   -- Away: all people whose placing leaves a good position, where they are at most t.
   unfoldable pub away : ℕ → ℕ → G .Pos → Search ℕ
-  unfolding dynamic
   away t k p = dynamic t k p

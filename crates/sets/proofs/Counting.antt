@@ -11,7 +11,7 @@ use lib.ListN.{length, length-append}
 use lib.Arith.{lt-one}
 use lib.Count.{ones, ones-step}
 use lib.Pow.{pow-pos, shr-lt, split}
-use Rattle.sets.specs.Lists.{upto, consIf, keep}
+use Rattle.sets.specs.Lists.{from, upto, consIf, keep}
 use Rattle.sets.specs.Sets.{has, bit, count, setOf, setFrom, size}
 use Rattle.sets.proofs.Lists.{lt-or-eq, upto-snoc, keep-append}
 use Rattle.sets.proofs.Bits.{has-low, has-top, has-high, has-empty, add-top-lt, bit-has}
@@ -142,7 +142,7 @@ unfolding keep
 keep-upto f n = rw (upto-snoc n, keep-append f (upto n) (n ∷ []))
 
 pub length-keep : (f : ℕ → Bool) (n : ℕ) → length (keep f (upto n)) ≡ count f n
-unfolding keep upto count
+unfolding from upto keep count
 length-keep f zero = refl
 length-keep f (suc n) = ap length (keep-upto f n) ∙ length-append (keep f (upto n)) (consIf (f n) n []) ∙ rw (length-keep f n) (go (f n))
   where
@@ -156,7 +156,7 @@ setFrom-append [] ys = sym (zero-add (setFrom ys))
 setFrom-append (x ∷ xs) ys = omega (arith, setFrom-append xs ys)
 
 pub setFrom-keep : (f : ℕ → Bool) (n : ℕ) → setFrom (keep f (upto n)) ≡ setOf f n
-unfolding keep upto setOf setFrom
+unfolding from upto keep setOf setFrom
 setFrom-keep f zero = refl
 setFrom-keep f (suc n) = ap setFrom (keep-upto f n) ∙ setFrom-append (keep f (upto n)) (consIf (f n) n []) ∙ rw (setFrom-keep f n) (go (f n))
   where

@@ -66,7 +66,7 @@ lowest-nobody n s e v l = go (has s v) refl
 
 -- the lowest comes first, and then the members of the set without it
 pub lowest-some : (n s v : ℕ) → lowest n s ≡ some v → (v < n) × (has s v ≡ true) × (members n s ≡ v ∷ members n (without n s v))
-unfolding lowest
+unfolding lowest members keep
 lowest-some n s v e = go (head-some (members n s) v e)
   where
     other : ℕ → Bool

@@ -30,7 +30,6 @@ from v (suc m) = v ∷ from (suc v) m
 
 -- 0, 1, .., n - 1
 unfoldable pub upto : ℕ → List ℕ
-unfolding from
 upto n = from 0 n
 
 -- x before the list where the test holds

@@ -32,17 +32,14 @@ setFrom (u ∷ us) = 2 ^ u + setFrom us
 
 -- how many of n people are members of s
 unfoldable pub size : ℕ → ℕ → ℕ
-unfolding count has
 size n s = count (has s) n
 
 -- the members of s among n people, ascending
 unfoldable pub members : ℕ → ℕ → List ℕ
-unfolding keep upto has
 members n s = keep (has s) (upto n)
 
 -- the lowest member of s among n people
 unfoldable pub lowest : ℕ → ℕ → Option ℕ
-unfolding members
 lowest n s = head (members n s)
 
 -- each member of c among n people is a member of s
@@ -76,7 +73,6 @@ everybody n m = setOf (λ w. ltb w m) n
 
 -- the sets of at most t of n people that contain c, in ascending number
 unfoldable pub sets : ℕ → ℕ → ℕ → List ℕ
-unfolding keep upto within size
 sets n t c = keep (λ s. within n c s && leb (size n s) t) (upto (2 ^ n))
 
 -- the one of them after s

@@ -25,7 +25,6 @@ noPeople = stored 0
 
 -- what `next` answers
 unfoldable pub nextNumber : Next → Option ℕ
-unfolding number
 nextNumber (next.Set s) = some (number s)
 nextNumber next.Nothing = none
 

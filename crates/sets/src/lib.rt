@@ -11,7 +11,7 @@ ghost use Prim.Native.Nat.{min, _+_, _^_};
 ghost use lib.Dec.{leb, ltb, eqb};
 ghost use Rattle.sets.specs.Lists.{pick, onlyIf};
 ghost use Rattle.sets.specs.Sets.{has, setOf, size, within, meets, lowest, with, without, common, joined, difference, everybody, nextSet};
-ghost use Rattle.sets.specs.Stored.{width, number, noPeople, nextNumber, lowestNumber};
+ghost use Rattle.sets.specs.Stored.{width, number, stored, noPeople, nextNumber, lowestNumber};
 pub use small::holds;
 
 // A set of people.
@@ -51,6 +51,20 @@ impl People {
         } else {
             People { bits: u32::MAX }
         }
+    }
+
+    // The set that a 32-bit number writes.
+    pub fn from_word(word: u32) -> People
+        ensures { λ r. ⌜ r ≡ stored word ⌝ }
+    {
+        People { bits: word }
+    }
+
+    // The 32-bit number that writes the set.
+    pub fn word(self) -> u32
+        ensures { λ r. ⌜ r ≡ number self ⌝ }
+    {
+        self.bits
     }
 
     // Is person v a member?

@@ -11,13 +11,13 @@ use Rattle.sets.proofs.People.counted_up.Statement.{statement}
 use Rattle.sets.proofs.People.counted_up.Tie as tie
 
 returns : tie.Need-returns
-unfolding nextNumber
+unfolding nextNumber number
 returns c =
     let a = c .before .args in
     onlyIf-gt (number (a .self) + 2 ^ a .v) (number (a .last)) _ (omega (arith, pow-mono {i = width} (c .if1 .taken)))
 
 returns-2 : tie.Need-returns-2
-unfolding nextNumber
+unfolding nextNumber number
 returns-2 c =
     let a = c .before .before .args in
     onlyIf-gt (number (a .self) + 2 ^ a .v) (number (a .last)) _ (omega arith)
@@ -26,7 +26,7 @@ shl-step : tie.Need-shl-step
 shl-step c = search needs
 
 returns-3 : tie.Need-returns-3
-unfolding nextNumber
+unfolding nextNumber number
 returns-3 c =
     let a = c .before .before .before .args in
     onlyIf-gt (number (a .self) + 2 ^ a .v) (number (a .last)) _ (omega (arith, shl-one width (a .v) (c .before .before .if1 .left)))
@@ -35,7 +35,7 @@ add-t9 : tie.Need-add-t9
 add-t9 c = search needs
 
 returns-4 : tie.Need-returns-4
-unfolding nextNumber
+unfolding nextNumber number
 returns-4 c =
     let a = c .before .before .before .before .args in
     let step = shl-one width (a .v) (omega arith) in
