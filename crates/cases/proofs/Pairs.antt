@@ -11,7 +11,7 @@ use Rattle.sets.specs.Lists.{pick, from, upto, keep, all, any}
 use Rattle.sets.specs.Sets.{has, setOf, members, common, joined, difference, everybody}
 use Rattle.sets.specs.Stored.{width, number, noPeople}
 use Rattle.sets.specs.declared.People.{People}
-use Rattle.sets.proofs.Lists.{all-append, any-append}
+use Rattle.sets.proofs.Lists.{and-true-end, or-false-end, all-append, any-append}
 use Rattle.sets.proofs.Bits.{has-empty}
 use Rattle.sets.proofs.Counting.{has-setOf, setOf-ext, is-setOf}
 use Rattle.sets.proofs.Records.{number-none}
@@ -30,14 +30,6 @@ all-nobody b e = number-none ∙ is-setOf (λ u. b) width 0 (pow-pos width) (λ 
 -- a member of a set that is known by its test
 has-of : (s : ℕ) (f : ℕ → Bool) → s ≡ setOf f width → (u : ℕ) → u < width → has s u ≡ f u
 has-of s f q u h = ap (λ (z : ℕ). has z u) q ∙ has-setOf f width u h
-
-and-true-end : (b : Bool) → b && true ≡ b
-and-true-end true = refl
-and-true-end false = refl
-
-or-false-end : (b : Bool) → b || false ≡ b
-or-false-end true = refl
-or-false-end false = refl
 
 module _ (group : ℕ) (pairs : List People) where
   abbrev everyUpto : ℕ → ℕ → Bool

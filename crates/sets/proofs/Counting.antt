@@ -1,19 +1,21 @@
 -- Counting people, and the sets of those who pass a test.
 use mathlib.Core.Path.{_≡_, refl, sym, ap, ap₂, _∙_}
 use mathlib.Core.Logic.{_⊎_, inl, inr}
-use mathlib.Core.Bool.{Bool, true, false, not}
+use mathlib.Core.Bool.{Bool, true, false, not, _&&_}
 use mathlib.Core.List.{List, [], _∷_, _++_}
-use Prim.Native.Nat.{ℕ, zero, suc, _+_, _-_, _*_, _/_, _%_, _^_, _<_}
+use Prim.Native.Nat.{ℕ, zero, suc, _+_, _-_, _*_, _/_, _%_, _^_, _≤_, _<_}
 use native.Mathlib.Nat.{not-suc-le-zero, le-of-suc-le-suc, le-refl, zero-add, add-zero, add-suc, sub-zero, pow-suc, mod-lt, mod-eq-of-lt}
 use native.Mathlib.Numerals.{one-add}
 use native.Mathlib.Omega.{arith}
+use borrow.Author.Tests.{lt-ltb, le-ltb}
+use lib.Dec.{ltb}
 use lib.ListN.{length, length-append}
 use lib.Arith.{lt-one}
 use lib.Count.{ones, ones-step}
 use lib.Pow.{pow-pos, shr-lt, split}
 use Rattle.sets.specs.Lists.{from, upto, consIf, keep}
 use Rattle.sets.specs.Sets.{has, bit, count, setOf, setFrom, size}
-use Rattle.sets.proofs.Lists.{lt-or-eq, upto-snoc, keep-append}
+use Rattle.sets.proofs.Lists.{and-true-end, and-false-end, lt-or-eq, upto-snoc, keep-append}
 use Rattle.sets.proofs.Bits.{has-low, has-top, has-high, has-empty, add-top-lt, bit-has}
 
 -- more of n people pass f than g: one of them passes f and not g
@@ -38,6 +40,20 @@ pub count-ext : (f g : ℕ → Bool) (n : ℕ) → ((v : ℕ) → v < n → f v 
 unfolding count
 count-ext f g zero h = refl
 count-ext f g (suc n) h = rw (h n (le-refl (suc n)), count-ext f g n (λ v k. h v (omega arith)))
+
+-- of n people, those below v who pass
+pub count-cut : (f : ℕ → Bool) (v n : ℕ) → v ≤ n → count (λ w. f w && ltb w v) n ≡ count f v
+unfolding count
+count-cut f v zero h = let e : v ≡ 0 = omega arith in ap (count f) (sym e)
+count-cut f v (suc n) h = go (λ l. count-cut f v n l) (lt-or-eq v (suc n) h)
+  where
+    below : (w : ℕ) → w < v → f w && ltb w v ≡ f w
+    below w l = ap (λ (b : Bool). f w && b) (lt-ltb w v l) ∙ and-true-end (f w)
+
+    go : (v ≤ n → count (λ w. f w && ltb w v) n ≡ count f v) → (v ≡ suc n) ⊎ (v < suc n) → bit (f n && ltb n v) + count (λ w. f w && ltb w v) n ≡ count f v
+    go r (inl e) = count-ext (λ w. f w && ltb w v) f (suc n) (λ w l. below w (omega arith)) ∙ ap (count f) (sym e)
+    go r (inr l) =
+        ap (λ (b : Bool). bit b + count (λ w. f w && ltb w v) n) (ap (λ (b : Bool). f n && b) (le-ltb n v (le-of-suc-le-suc l)) ∙ and-false-end (f n)) ∙ zero-add _ ∙ r (le-of-suc-le-suc l)
 
 -- ---- the set of those who pass
 

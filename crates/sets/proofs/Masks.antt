@@ -1,5 +1,5 @@
 -- What the operations on one word of n bits make of the sets that it stores, for every n.
-use mathlib.Core.Path.{_≡_, refl, sym, ap, _∙_}
+use mathlib.Core.Path.{_≡_, refl, sym, ap, ap₂, _∙_}
 use mathlib.Core.Bool.{Bool, true, false, not, _&&_, _||_, true≢false}
 use Prim.Native.Nat.{ℕ, _-_, _*_, _%_, _^_, _≤_, _<_, min}
 use native.Mathlib.Nat.{le-refl, one-mul, min-le-right, min-eq-left, min-eq-right, lt-of-lt-of-le}
@@ -9,10 +9,10 @@ use borrow.Author.Tests.{lt-ltb, le-ltb, eq-eqb, ne-eqb}
 use lib.Bits.{bitAnd, bitOr, and-lt, or-lt}
 use lib.Dec.{ltb, eqb}
 use lib.Pow.{pow-pos, pow-mono, pow-lt, ones-lt, ones-sub-lt, shl-exact}
-use Rattle.sets.specs.Sets.{has, setOf, within, meets, with, without, common, joined, difference, everybody}
-use Rattle.sets.proofs.Lists.{and-true, true-and}
+use Rattle.sets.specs.Sets.{has, setOf, size, within, meets, with, without, common, joined, difference, everybody, sizeBefore, after}
+use Rattle.sets.proofs.Lists.{and-true, true-and, and-true-end}
 use Rattle.sets.proofs.Bits.{has-beyond, has-empty, has-power, has-and, has-or}
-use Rattle.sets.proofs.Counting.{has-setOf, setOf-ext, set-ext, is-setOf, has-not, has-ones}
+use Rattle.sets.proofs.Counting.{count-ext, has-setOf, setOf-ext, set-ext, is-setOf, has-not, has-ones}
 use Rattle.sets.proofs.Listed.{within-mem, mem-within, meets-mem, mem-meets}
 
 -- ---- one person, and the first m
@@ -89,3 +89,27 @@ with-is n s v = setOf-ext (λ w. has s w || has (setOf (λ u. eqb u v) n) w) (λ
 
 pub without-is : (n s v : ℕ) → difference n s (setOf (λ w. eqb w v) n) ≡ without n s v
 without-is n s v = setOf-ext (λ w. has s w && not (has (setOf (λ u. eqb u v) n) w)) (λ w. has s w && not (eqb w v)) n (λ w l. ap (λ (b : Bool). has s w && not b) (has-setOf (λ u. eqb u v) n w l))
+
+pub without-none : (n s v : ℕ) → s < 2 ^ n → n ≤ v → s ≡ without n s v
+without-none n s v h l = is-setOf (λ w. has s w && not (eqb w v)) n s h (λ w k. sym (ap (λ (b : Bool). has s w && not b) (ne-eqb w v (λ e. omega arith)) ∙ and-true-end (has s w)))
+
+-- ---- before and after a person
+
+pub before-is : (n s v a b : ℕ) → a ≡ everybody n v → b ≡ common n s a → size n b ≡ sizeBefore n s v
+unfolding size sizeBefore
+before-is n s v a b p q =
+    count-ext (has b) (λ w. has s w && ltb w v) n
+    (λ w l. ap (λ (x : ℕ). has x w) q ∙ has-setOf (λ u. has s u && has a u) n w l ∙ ap (λ (x : Bool). has s w && x) (ap (λ (x : ℕ). has x w) p ∙ has-setOf (λ u. ltb u v) n w l))
+
+pub after-is : (n s v a b : ℕ) → a ≡ everybody n v → b ≡ with n a v → difference n s b ≡ after n s v
+after-is n s v a b p q =
+    setOf-ext (λ w. has s w && not (has b w)) (λ w. has s w && ltb v w) n
+    (λ w l. ap (λ (x : Bool). has s w && x) (ap not (ap (λ (x : ℕ). has x w) q ∙ has-setOf (λ u. has a u || eqb u v) n w l ∙ ap (λ (x : Bool). x || eqb w v) (ap (λ (x : ℕ). has x w) p ∙ has-setOf (λ u. ltb u v) n w l)) ∙ past w))
+  where
+    past : (w : ℕ) → not (ltb w v || eqb w v) ≡ ltb v w
+    past w = go (decLt w v) (decLt v w)
+      where
+        go : Dec (w < v) → Dec (v < w) → not (ltb w v || eqb w v) ≡ ltb v w
+        go (yes k) d = ap (λ (b : Bool). not (b || eqb w v)) (lt-ltb w v k) ∙ sym (le-ltb v w (omega arith))
+        go (no k) (yes m) = ap₂ (λ (b c : Bool). not (b || c)) (le-ltb w v (omega arith)) (ne-eqb w v (λ e. omega arith)) ∙ sym (lt-ltb v w m)
+        go (no k) (no m) = ap₂ (λ (b c : Bool). not (b || c)) (le-ltb w v (omega arith)) (eq-eqb w v (omega arith)) ∙ sym (le-ltb v w (omega arith))

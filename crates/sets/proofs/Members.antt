@@ -1,24 +1,24 @@
 -- The members of a set, one by one: the list of them, and the lowest.
-use mathlib.Core.Path.{_≡_, refl, sym, ap, subst, _∙_}
+use mathlib.Core.Path.{_≡_, refl, sym, ap, ap₂, subst, _∙_}
 use mathlib.Core.Logic.{inl, inr}
 use mathlib.Core.Bool.{Bool, true, false, not, _&&_, true≢false}
 use mathlib.Core.Option.{none, some}
 use mathlib.Core.List.{List, [], _∷_, _++_, append-nil}
-use Prim.Native.Nat.{ℕ, zero, suc, _+_, _/_, _%_, _^_, _≤_, _<_}
+use Prim.Native.Nat.{ℕ, zero, suc, _+_, _-_, _/_, _%_, _^_, _≤_, _<_}
 use native.Mathlib.Nat.{not-suc-le-zero, le-of-suc-le-suc, zero-lt-suc, pow-suc}
 use native.Mathlib.Numerals.{add-one}
 use native.Mathlib.Decide.{decLt}
 use native.Mathlib.Omega.{arith}
-use borrow.Author.Tests.{eq-eqb, ne-eqb}
-use lib.Dec.{eqb}
+use borrow.Author.Tests.{eq-eqb, ne-eqb, lt-ltb, le-ltb}
+use lib.Dec.{eqb, ltb}
 use lib.ListN.{length}
 use lib.Count.{trailingZeros, under}
-use Rattle.sets.specs.Lists.{_∈_, upto, consIf, keep, head}
-use Rattle.sets.specs.Sets.{has, setFrom, size, members, lowest, without}
-use Rattle.sets.proofs.Lists.{upto-in, upto-mem, nothing-in, head-none, head-some, keep-in, keep-mem, keep-cong, keep-everything, keep-keep}
+use Rattle.sets.specs.Lists.{_∈_, from, upto, consIf, keep, head}
+use Rattle.sets.specs.Sets.{has, setFrom, size, members, lowest, without, sizeBefore, after}
+use Rattle.sets.proofs.Lists.{and-true-end, and-false-end, from-lo, from-hi, upto-split, keep-append, keep-nothing, upto-in, upto-mem, nothing-in, head-none, head-some, keep-in, keep-mem, keep-cong, keep-everything, keep-keep}
 use Rattle.sets.proofs.Ascending.{Ascending, kept-ascending, ascending-first}
 use Rattle.sets.proofs.Bits.{has-empty, digit-lt, has-first, has-half}
-use Rattle.sets.proofs.Counting.{has-setOf, setOf-has, keep-upto, length-keep, setFrom-keep}
+use Rattle.sets.proofs.Counting.{count-cut, has-setOf, setOf-has, keep-upto, length-keep, setFrom-keep}
 
 pub members-in : (n s x : ℕ) → x ∈ members n s → (x < n) × (has s x ≡ true)
 unfolding members
@@ -141,3 +141,51 @@ trailing (suc n) s h k = go (s % 2) refl (trailing n (s / 2) (omega (arith, pow-
 
 pub lowest-trailing : (n s : ℕ) → s < 2 ^ n → (s ≡ 0 → ⊥) → lowest n s ≡ some (trailingZeros n s)
 lowest-trailing n s h k = let r = trailing n s h k in lowest-is n s (trailingZeros n s) (r .0) (r .1) (r .2)
+
+-- ---- before and after a member
+
+-- a member, with those before it and those after it
+pub record Split (n s v : ℕ) : Type 0 where
+  pub lower : List ℕ
+  pub split : members n s ≡ lower ++ (v ∷ members n (after n s v))
+  pub many : length lower ≡ sizeBefore n s v
+  pub below : (u : ℕ) → u ∈ lower → (u < v) × (has s u ≡ true)
+
+pub members-split : (n s v : ℕ) → v < n → has s v ≡ true → Split n s v
+unfolding members keep
+members-split n s v h e =
+    record {
+      lower = members v s;
+      split = whole (has s) ∙ ap (λ (b : Bool). keep (has s) (upto v) ++ consIf b v (keep (has s) above)) e ∙ ap (λ (l : List ℕ). keep (has s) (upto v) ++ (v ∷ l)) (sym rest);
+      many = members-length v s ∙ fewer;
+      below = λ u m. members-in v s u m;
+    }
+  where
+    above : List ℕ
+    above = from (suc v) (n - suc v)
+
+    whole : (f : ℕ → Bool) → keep f (upto n) ≡ keep f (upto v) ++ keep f (v ∷ above)
+    whole f = ap (keep f) (upto-split n v h) ∙ keep-append f (upto v) (v ∷ above)
+
+    later : (w : ℕ) → w < n → has (after n s v) w ≡ has s w && ltb v w
+    later w l = has-setOf (λ u. has s u && ltb v u) n w l
+
+    none-lower : keep (has (after n s v)) (upto v) ≡ []
+    none-lower =
+        keep-nothing (has (after n s v)) (upto v)
+        (λ w m. let l = upto-in v w m in later w (omega arith) ∙ ap (λ (b : Bool). has s w && b) (le-ltb v w (omega arith)) ∙ and-false-end (has s w))
+
+    not-v : has (after n s v) v ≡ false
+    not-v = later v h ∙ ap (λ (b : Bool). has s v && b) (le-ltb v v (omega arith)) ∙ and-false-end (has s v)
+
+    same-above : keep (has (after n s v)) above ≡ keep (has s) above
+    same-above =
+        keep-cong (has (after n s v)) (has s) above
+        (λ w m. let lo = from-lo (suc v) (n - suc v) w m in let hi = from-hi (suc v) (n - suc v) w m in
+          later w (omega arith) ∙ ap (λ (b : Bool). has s w && b) (lt-ltb v w (omega arith)) ∙ and-true-end (has s w))
+
+    rest : keep (has (after n s v)) (upto n) ≡ keep (has s) above
+    rest = whole (has (after n s v)) ∙ ap₂ (λ (l : List ℕ) (b : Bool). l ++ consIf b v (keep (has (after n s v)) above)) none-lower not-v ∙ same-above
+
+    fewer : size v s ≡ sizeBefore n s v
+    fewer = unfold size sizeBefore in sym (count-cut (has s) v n (omega arith))

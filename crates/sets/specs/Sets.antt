@@ -71,6 +71,13 @@ difference n a b = setOf (λ w. has a w && not (has b w)) n
 abbrev pub everybody : ℕ → ℕ → ℕ
 everybody n m = setOf (λ w. ltb w m) n
 
+-- how many members of s come before person v; the members after v
+unfoldable pub sizeBefore : ℕ → ℕ → ℕ → ℕ
+sizeBefore n s v = count (λ w. has s w && ltb w v) n
+
+abbrev pub after : ℕ → ℕ → ℕ → ℕ
+after n s v = setOf (λ w. has s w && ltb v w) n
+
 -- the sets of at most t of n people that contain c, in ascending number
 unfoldable pub sets : ℕ → ℕ → ℕ → List ℕ
 sets n t c = keep (λ s. within n c s && leb (size n s) t) (upto (2 ^ n))

@@ -10,9 +10,12 @@ ghost use mathlib.Core.Option.{some};
 ghost use Prim.Native.Nat.{min, _+_, _^_};
 ghost use lib.Dec.{leb, ltb, eqb};
 ghost use Rattle.sets.specs.Lists.{pick, onlyIf};
-ghost use Rattle.sets.specs.Sets.{has, setOf, size, within, meets, lowest, with, without, common, joined, difference, everybody, nextSet};
-ghost use Rattle.sets.specs.Stored.{width, number, stored, noPeople, nextNumber, lowestNumber};
+ghost use Rattle.sets.specs.Sets.{has, setOf, size, within, meets, lowest, with, without, common, joined, difference, everybody, sizeBefore, after, nextSet};
+ghost use Rattle.sets.specs.Stored.{width, number, stored, noPeople, shelved, nextNumber, lowestNumber};
+pub use small::first;
 pub use small::holds;
+pub use small::less;
+pub use small::share;
 
 // A set of people.
 pub struct People {
@@ -65,6 +68,17 @@ impl People {
         ensures { λ r. ⌜ r ≡ number self ⌝ }
     {
         self.bits
+    }
+
+    // The set at place i of a shelf of stored sets; nobody past its end.
+    pub fn at(shelf: &[u32], i: usize) -> People
+        ensures { λ r. ⌜ number r ≡ shelved (now (shelf .entry)) i ⌝ }
+    {
+        if i < shelf.len() {
+            People { bits: shelf[i] }
+        } else {
+            People { bits: 0 }
+        }
     }
 
     // Is person v a member?
@@ -161,6 +175,20 @@ impl People {
         } else {
             Lowest::Person(u32::trailing_zeros(bits) as u8)
         }
+    }
+
+    // How many members come before person v.
+    pub fn before(self, v: u8) -> u32
+        ensures { λ r. ⌜ r ≡ sizeBefore width (number self) v ⌝ }
+    {
+        self.common(People::everybody(v)).size()
+    }
+
+    // The members after person v.
+    pub fn after(self, v: u8) -> People
+        ensures { λ r. ⌜ number r ≡ after width (number self) v ⌝ }
+    {
+        self.difference(People::everybody(v).with(v))
     }
 
     // The set after this one among the sets of at most `most` of the first n people that contain `held`, in ascending number. Nothing where

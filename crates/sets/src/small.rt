@@ -1,10 +1,44 @@
-// Small sets, of roles and of steps: plain numbers of at most 16 bits, with bit i for role or step i.
+// Small sets, of roles, steps and rules: plain numbers of at most 32 bits, with bit i for role, step or rule i.
 ghost use mathlib.Core.Path.{_≡_};
-ghost use Rattle.sets.specs.Sets.{has};
+ghost use Rattle.sets.specs.Sets.{has, meets, lowest, without};
+ghost use Rattle.sets.specs.Stored.{lowestOr};
 
 // Is i a member?
 pub fn holds(set: u16, i: u8) -> bool
     ensures { λ r. ⌜ r ≡ has set i ⌝ }
 {
-    if i < 16 { (set >> i) % 2 == 1 } else { false }
+    if i < 16 {
+        (set >> i) % 2 == 1
+    } else {
+        false
+    }
+}
+
+// Have two sets a member in common?
+pub fn share(a: u16, b: u16) -> bool
+    ensures { λ r. ⌜ r ≡ meets 16 a b ⌝ }
+{
+    a & b != 0
+}
+
+// The lowest member, 32 where there is none.
+pub fn first(set: u32) -> u8
+    ensures { λ r. ⌜ r ≡ lowestOr 32 (lowest 32 set) ⌝ }
+{
+    if set == 0 {
+        32
+    } else {
+        u32::trailing_zeros(set) as u8
+    }
+}
+
+// The set without i.
+pub fn less(set: u32, i: u8) -> u32
+    ensures { λ r. ⌜ r ≡ without 32 set i ⌝ }
+{
+    if i < 32 {
+        set & !(1 << i)
+    } else {
+        set
+    }
 }
