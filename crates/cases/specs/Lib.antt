@@ -4,4 +4,5 @@ pub mod Rules
 pub mod Plans
 pub mod Questions
 pub mod Chain
+pub mod Positions
 pub mod Pairs

@@ -2,17 +2,25 @@
 use sets::People;
 use sets::holds;
 ghost use mathlib.Core.Path.{_≡_};
+ghost use lib.ListN.{getD};
 ghost use Rattle.sets.specs.Sets.{setOf};
 ghost use Rattle.sets.specs.Stored.{width, number};
 ghost use Rattle.cases.specs.Case.{emptyCase, mostSteps};
 ghost use Rattle.cases.specs.Rules.{keepersOf};
 ghost use Rattle.cases.specs.Pairs.{Gathered};
+ghost use Rattle.cases.specs.Positions.{startPosition, persons, placedNext};
 
 // A person's number. Persons and steps both count from 0, and neither stands where the other is due.
 pub struct Person(pub u8);
 
 // A step's number.
 pub struct Step(pub u8);
+
+// A position: the persons of the first `len` steps. What stands behind them is not looked at.
+pub struct Position {
+    pub who: [Person; Case::STEPS],
+    pub len: u8,
+}
 
 // How many entries of each kind are in use. Entries above a count read as zero.
 pub struct Counts {
@@ -45,6 +53,46 @@ pub struct Case {
     pub steps: [StepEntry; Case::STEPS],
     pub rows: [People; Case::ROWS],
     pub rules: [Rule; Case::RULES],
+}
+
+impl Position {
+    // No step is filled.
+    pub fn start() -> Position
+        ensures { λ r. ⌜ r ≡ startPosition ⌝ }
+    {
+        let nobody = Person(0);
+        Position {
+            who: [nobody; Case::STEPS],
+            len: 0,
+        }
+    }
+
+    // The person of step i, person 0 where it is not filled.
+    pub fn person(self, i: u8) -> Person
+        ensures { λ r. ⌜ r .0 ≡ getD (persons self) i 0 ⌝ }
+    {
+        if self.len <= i {
+            return Person(0);
+        }
+        if 8 <= i {
+            return Person(0);
+        }
+        self.who[i as usize]
+    }
+
+    // One person more, where there is room.
+    pub fn placed(self, v: Person) -> Position
+        ensures { λ r. ⌜ r ≡ placedNext self v ⌝ }
+    {
+        let at = self.len;
+        if 8 <= at {
+            return self;
+        }
+        let mut next = self;
+        next.who[at as usize] = v;
+        next.len = at + 1;
+        next
+    }
 }
 
 impl Case {
@@ -116,7 +164,7 @@ pub fn keepers(form: u8, group: u8, pairs: [People; Case::STEPS]) -> People
 }
 
 // Everybody, or nobody.
-fn everybody_if(wanted: bool) -> People
+pub fn everybody_if(wanted: bool) -> People
     ensures { λ r. ⌜ number r ≡ setOf (λ u. wanted) width ⌝ }
 {
     if wanted {
