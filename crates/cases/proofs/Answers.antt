@@ -9,12 +9,14 @@ use Prim.Native.Nat.{ℕ, zero, suc, _+_, _-_, _≤_, _<_}
 use native.Mathlib.Decide.{decLt}
 use native.Mathlib.Omega.{arith}
 use lib.ListN.{length, getD, take, drop, length-append, length-drop, take-append-drop}
-use lib.Seq.{take-append-seam, drop-cons, getD-append-seam, append-snoc}
+use lib.Seq.{take-all, take-suc, take-append-seam, drop-cons, getD-append-seam, append-snoc}
 use Rattle.sets.specs.Sets.{has}
 use Rattle.sets.proofs.Lists.{lt-or-eq}
 use Rattle.sets.proofs.Bits.{has-empty}
-use Rattle.games.specs.Walks.{plan, static, decremental, dynamic}
-use Rattle.games.specs.Games.{Absent, Contains, Line, Planned, Static, Decremental, Dynamic, Round, Earliest, First, goodPeople, canLeave, good}
+use Rattle.games.specs.Arena.{Round}
+use Rattle.games.specs.Walks.{Search, Yes, No, plan, static, decremental, dynamic}
+use Rattle.games.specs.Games.{Absent, Contains, Line, Planned, Static, Decremental, Dynamic}
+use Rattle.games.specs.Good.{Earliest, First}
 use Rattle.games.proofs.Verdicts.{contains-empty, plan-exactly, plan-first, static-exactly, static-shown, decremental-exactly, decremental-shown}
 use Rattle.games.proofs.Good.{dynamic-exactly, dynamic-shown}
 use Rattle.games.proofs.Chain.{dynamic→decremental, decremental→static, static→planned}
@@ -23,6 +25,7 @@ use Rattle.cases.specs.declared.Case.{Case}
 use Rattle.cases.specs.Case.{people, steps}
 use Rattle.cases.specs.Plans.{Valid, Plan, Without, FirstPlan}
 use Rattle.cases.specs.Questions.{HasPlan, StaticYes, Placed, DecrementalYes, DynamicYes}
+use Rattle.cases.specs.Shown.{StaticNo, Answers, DecrementalNo}
 use Rattle.cases.specs.Chain.{chain, planOf, staticOf, decrementalOf, dynamicOf}
 use Rattle.cases.proofs.Rounds.{start-valid, prefix-valid, valid-short, round-placed, placed-round, round-placed-person, placed-round-person, line-valid, valid-line, without-start, planned-plan}
 
@@ -134,8 +137,7 @@ module _ (c : Case) where
           let low = lower-here k p q f v (getD r i 0) (drop (suc i) r) (subst (Valid c) (other h) w) (omega (arith, length-drop (suc i) r)) in
           omega (arith, here h)
 
-  -- the plan got is a plan, and the first in the walk's order
-  pub plan-got : (q : List ℕ) → planOf c .got ≡ some q → Plan c q × FirstPlan c q
+  plan-got : (q : List ℕ) → planOf c .got ≡ some q → Plan c q × FirstPlan c q
   plan-got q e =
       let f = plan-first (chain c) 0 (steps c) [] q e in
       let l = line-valid c 0 (steps c) [] q (start-valid c) (without-start c 0) (first-line (steps c) [] q f) in (
@@ -143,10 +145,50 @@ module _ (c : Case) where
         λ r s i h b. no-lower (steps c) [] q r i f (start-valid c) (s .valid) (omega (arith, s .whole)) (omega arith) (omega arith) b,
       )
 
+  -- two first plans are one
+  first-once : (q r : List ℕ) → Plan c q → FirstPlan c q → Plan c r → FirstPlan c r → q ≡ r
+  first-once q r p f p′ f′ =
+      sym (take-all (steps c) q (omega (arith, p .whole))) ∙ agree (steps c) (omega arith) ∙ take-all (steps c) r (omega (arith, p′ .whole))
+    where
+      agree : (i : ℕ) → i ≤ steps c → take i q ≡ take i r
+      agree zero h = refl
+      agree (suc i) h =
+          let e = agree i (omega arith) in
+          let low = f r p′ i h (sym e) in
+          let high = f′ q p i h e in
+          let same : getD q i 0 ≡ getD r i 0 = omega arith in
+          take-suc q i 0 (omega (arith, p .whole)) ∙ ap₂ (λ (l : List ℕ) (x : ℕ). l ++ (x ∷ [])) e same ∙ sym (take-suc r i 0 (omega (arith, p′ .whole)))
+
+  -- the plan got is the first in the walk's order
+  pub plan-first-got : (q : List ℕ) → (planOf c .got ≡ some q) ↔ (Plan c q × FirstPlan c q)
+  plan-first-got q = (plan-got q, back)
+    where
+      back : Plan c q × FirstPlan c q → planOf c .got ≡ some q
+      back h =
+          let g = plan-exact .1 (q, h .0) in
+          let k = plan-got (g .0) (g .1) in
+          g .1 ∙ ap some (first-once (g .0) q (k .0) (k .1) (h .0) (h .1))
+
+  -- ---- what a no shows is the first of its kind, so there is one
+
+  -- a walk that says yes exactly if Y, and that shows an A with N A, shows A exactly if N A
+  shown-exactly : (w : Search ℕ) {Y : Type 0} (N : ℕ → Type 0) → (Yes w → Y) → ((A : ℕ) → No w A → N A)
+      → ((A : ℕ) → N A → Y → ⊥) → ((A B : ℕ) → N A → N B → A < B → ⊥) → (A : ℕ) → No w A ↔ N A
+  shown-exactly w N yes′ shows clash order A = (shows A, λ n. go n (w .got) refl)
+    where
+      same : N A → (B : ℕ) → N B → Dec (A < B) → Dec (B < A) → B ≡ A
+      same n B m (yes l) d = absurd (order A B n m l)
+      same n B m (no l) (yes g) = absurd (order B A m n g)
+      same n B m (no l) (no g) = omega arith
+
+      go : N A → (o : Option ℕ) → w .got ≡ o → w .got ≡ some A
+      go n none e = absurd (clash A n (yes′ e))
+      go n (some B) e = e ∙ ap some (same n B (shows B e) (decLt A B) (decLt B A))
+
   -- ---- static
 
   -- yes exactly if for every set of at most t people there is a plan using none of them
-  pub static-exact : (t : ℕ) → (staticOf c t .got ≡ none) ↔ StaticYes c t
+  pub static-exact : (t : ℕ) → Yes (staticOf c t) ↔ StaticYes c t
   static-exact t =
       let e = static-exactly (chain c) t (steps c) [] in (
         λ x A a. planned-plan c A .0 (e .0 x A a),
@@ -154,13 +196,8 @@ module _ (c : Case) where
       )
 
   -- a no shows the first set, in ascending number, of at most t people without whom there is no plan
-  pub record StaticNo (t A : ℕ) : Type 0 where
-    pub absent : Absent (people c) t A
-    pub unplanned : (q : List ℕ) → Plan c q → Without A q → ⊥
-    pub first : (B : ℕ) → B < A → Absent (people c) t B → (q : List ℕ) × Plan c q × Without B q
-
-  pub static-no : (t A : ℕ) → staticOf c t .got ≡ some A → StaticNo t A
-  static-no t A e =
+  static-shows : (t A : ℕ) → No (staticOf c t) A → StaticNo c t A
+  static-shows t A e =
       let s = static-shown (chain c) t (steps c) [] A e in
       record {
         absent = s .absent;
@@ -168,34 +205,32 @@ module _ (c : Case) where
         first = λ B l a. planned-plan c B .0 (s .first B l a);
       }
 
+  pub static-no : (t A : ℕ) → No (staticOf c t) A ↔ StaticNo c t A
+  static-no t =
+      shown-exactly (staticOf c t) (StaticNo c t) (static-exact t .0) (static-shows t)
+      (λ A n y. let q = y A (n .absent) in n .unplanned (q .0) (q .1) (q .2))
+      (λ A B n m l. let q = m .first A l (n .absent) in n .unplanned (q .0) (q .1) (q .2))
+
   -- ---- decremental
 
   -- yes exactly if the desk wins
-  pub decremental-exact : (t : ℕ) → (decrementalOf c t .got ≡ none) ↔ DecrementalYes c t
+  pub decremental-exact : (t : ℕ) → Yes (decrementalOf c t) ↔ DecrementalYes c t
   decremental-exact t =
       let e = decremental-exactly (chain c) t (steps c) 0 [] in
       let s = decremental-same t (steps c) 0 [] (start-valid c) in
       (λ x. s .0 (e .0 x), λ g. e .1 (s .1 g))
 
-  -- with A away before the first step the desk still has a winning answer
-  abbrev pub Answers : ℕ → ℕ → Type 0
-  Answers t A = (q : List ℕ) × Placed c A [] q × Decremental (people c) (Placed c) t (steps c - 1) A q
-
   -- a no shows the first set, in ascending number, that beats the desk when named before the first step
-  pub record DecrementalNo (t A : ℕ) : Type 0 where
-    pub absent : Absent (people c) t A
-    pub beats : Answers t A → ⊥
-    pub first : (B : ℕ) → B < A → Absent (people c) t B → Answers t B
-
-  pub decremental-no : (t A : ℕ) → decrementalOf c t .got ≡ some A → DecrementalNo t A
-  decremental-no t A e = go (steps c) refl e
+  decremental-shows : (t A : ℕ) → No (decrementalOf c t) A → DecrementalNo c t A
+  decremental-shows t A e = go (steps c) refl e
     where
-      go : (k : ℕ) → steps c ≡ k → decremental (chain c) t k 0 [] .got ≡ some A → DecrementalNo t A
+      go : (k : ℕ) → steps c ≡ k → decremental (chain c) t k 0 [] .got ≡ some A → DecrementalNo c t A
       go zero h x = absurd (Option·none-ne-some A (unfold decremental in x))
       go (suc k) h x =
           let s = decremental-shown (chain c) t k 0 [] A x in
           let left : steps c - 1 ≡ k = omega arith in
           record {
+            step = omega arith;
             absent = s .absent;
             beats = λ g.
                 let v = g .1 .valid in
@@ -206,10 +241,26 @@ module _ (c : Case) where
                 (g .0, q, subst (λ j. Decremental (people c) (Placed c) t j B (g .0)) (sym left) (decremental-same t k B (g .0) (q .valid) .0 (g .2)));
           }
 
+  pub decremental-no : (t A : ℕ) → No (decrementalOf c t) A ↔ DecrementalNo c t A
+  decremental-no t =
+      shown-exactly (decrementalOf c t) (DecrementalNo c t) (decremental-exact t .0) (decremental-shows t)
+      (λ A n y. n .beats (answer A n y))
+      (λ A B n m l. n .beats (m .first A l (n .absent)))
+    where
+      answer : (A : ℕ) → DecrementalNo c t A → DecrementalYes c t → Answers c t A
+      answer A n y = go (steps c) refl y
+        where
+          go : (k : ℕ) → steps c ≡ k → Decremental (people c) (Placed c) t k 0 [] → Answers c t A
+          go zero h g = let s = n .step in let z : ⊥ = omega arith in absurd z
+          go (suc k) h g =
+              let left : k ≡ steps c - 1 = omega arith in
+              let r = g A (n .absent) (contains-empty (people c) A) in
+              (r .0, r .1, subst (λ j. Decremental (people c) (Placed c) t j A (r .0)) left (r .2))
+
   -- ---- dynamic
 
   -- yes exactly if the desk wins
-  pub dynamic-exact : (t : ℕ) → (dynamicOf c t .got ≡ none) ↔ DynamicYes c t
+  pub dynamic-exact : (t : ℕ) → Yes (dynamicOf c t) ↔ DynamicYes c t
   dynamic-exact t =
       let e = dynamic-exactly (chain c) t (steps c) [] in
       let s = dynamic-same t (steps c) [] (start-valid c) in
@@ -217,14 +268,14 @@ module _ (c : Case) where
 
   -- ---- dynamic yes gives decremental yes, that gives static yes, and that a plan
 
-  pub dynamic-decremental : (t : ℕ) → dynamicOf c t .got ≡ none → decrementalOf c t .got ≡ none
+  pub dynamic-decremental : (t : ℕ) → Yes (dynamicOf c t) → Yes (decrementalOf c t)
   dynamic-decremental t e =
       decremental-exactly (chain c) t (steps c) 0 [] .1 (dynamic→decremental (people c) (Round (chain c)) t (steps c) 0 [] (dynamic-exactly (chain c) t (steps c) [] .0 e))
 
-  pub decremental-static : (t : ℕ) → decrementalOf c t .got ≡ none → staticOf c t .got ≡ none
+  pub decremental-static : (t : ℕ) → Yes (decrementalOf c t) → Yes (staticOf c t)
   decremental-static t e =
       static-exactly (chain c) t (steps c) [] .1 (decremental→static (people c) (Round (chain c)) t (steps c) [] (decremental-exactly (chain c) t (steps c) 0 [] .0 e))
 
-  pub static-plan : (t : ℕ) → staticOf c t .got ≡ none → (q : List ℕ) × (planOf c .got ≡ some q)
+  pub static-plan : (t : ℕ) → Yes (staticOf c t) → (q : List ℕ) × (planOf c .got ≡ some q)
   static-plan t e =
       plan-exactly (chain c) 0 (steps c) [] .1 (static→planned (people c) (Round (chain c)) t (steps c) [] (static-exactly (chain c) t (steps c) [] .0 e))

@@ -7,7 +7,7 @@ use borrow.Author.Tests.{lt-ltb}
 use lib.Dec.{eqb, ltb}
 use lib.ListN.{getD}
 use lib.Pow.{pow-pos}
-use Rattle.sets.specs.Lists.{pick, from, upto, keep, all, any}
+use Rattle.sets.specs.Lists.{pick, _∈_, from, upto, keep, all, any}
 use Rattle.sets.specs.Sets.{has, setOf, members, common, joined, difference, everybody}
 use Rattle.sets.specs.Stored.{width, number, noPeople}
 use Rattle.sets.specs.declared.People.{People}
@@ -17,8 +17,11 @@ use Rattle.sets.proofs.Counting.{has-setOf, setOf-ext, is-setOf}
 use Rattle.sets.proofs.Records.{number-none}
 use Rattle.sets.proofs.Members.{members-more, members-same}
 use Rattle.cases.specs.Case.{mostSteps}
-use Rattle.cases.specs.Rules.{needed, stepsIn, keepersOf}
+use Rattle.cases.specs.declared.Rule.{Rule}
+use Rattle.cases.specs.declared.Case.{Case}
+use Rattle.cases.specs.Rules.{related, needed, stepsIn, kept, keepersOf}
 use Rattle.cases.specs.Pairs.{pairOf, Gathered}
+use Rattle.cases.proofs.Rules.{needed-cong}
 
 -- everybody passes a test that holds for each, and nobody one that holds for none
 pub all-everybody : (b : Bool) → b ≡ true → everybody width width ≡ setOf (λ u. b) width
@@ -94,3 +97,10 @@ module _ (group : ℕ) (pairs : List People) where
       choose false true false = refl
       choose false false true = refl
       choose false false false = refl
+
+-- the rule test tests the rule: where each pair's set tells the relation of that pair, a person is kept exactly if the rule is
+pub keepers-kept : (c : Case) (r : Rule) (who : ℕ → ℕ) (pairs : List People) (u : ℕ) → u < width
+    → ((x : ℕ) → x ∈ stepsIn (r .group) → pairOf pairs u x ≡ related c (r .relation) (who (r .step .0)) (who x))
+    → has (keepersOf (r .form) (r .group) pairs) u ≡ kept c r who
+unfolding keepersOf kept
+keepers-kept c r who pairs u l h = has-setOf _ width u l ∙ needed-cong (r .form) _ _ (stepsIn (r .group)) h

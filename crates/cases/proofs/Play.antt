@@ -13,17 +13,20 @@ use lib.Seq.{take-suc, take-length, getD-at, append-snoc}
 use Rattle.sets.specs.Sets.{has, count, setOf, size}
 use Rattle.sets.proofs.Bits.{has-empty}
 use Rattle.sets.proofs.Counting.{has-setOf, size-setOf, setOf-lt, count-ext, set-ext}
-use Rattle.games.specs.Walks.{Search, dynamic, advice, away}
-use Rattle.games.specs.Games.{Absent, Dynamic, Round, canLeave, good, goodPeople}
-use Rattle.games.specs.Play.{AllAbsent, followed, Rounds}
+use Rattle.games.specs.Walks.{Search, Yes, No, dynamic, advice, away}
+use Rattle.games.specs.Arena.{Round}
+use Rattle.games.specs.Games.{Absent, Dynamic}
+use Rattle.games.specs.Good.{canLeave, good, goodCount, goodPeople}
+use Rattle.games.specs.Play.{AllAbsent}
 use Rattle.games.proofs.Searches.{canLeave-round, round-canLeave}
-use Rattle.games.proofs.Good.{goodCount, dynamic-good, dynamic-bad, dynamic-shown, good-exactly, good-more, good-few, good-away, goodPeople-absent}
-use Rattle.games.proofs.Play.{Advised, advice-some, advice-none, yes-played, away-some, away-none}
+use Rattle.games.proofs.Good.{dynamic-exactly, dynamic-good, dynamic-bad, dynamic-shown, good-exactly, good-more, good-few, good-away, goodPeople-absent}
+use Rattle.games.proofs.Play.{Advised, advice-some, advice-none, good-advised, away-some, away-none}
 use Rattle.cases.specs.declared.Case.{Case}
 use Rattle.cases.specs.Case.{people, steps}
 use Rattle.cases.specs.Plans.{Valid, Plan, Without}
-use Rattle.cases.specs.Questions.{Placed, WinsFrom, LeavesGood, GoodSet}
-use Rattle.cases.specs.Chain.{chain, dynamicOf, adviceAt, awayAt, Dodges}
+use Rattle.cases.specs.Questions.{Placed}
+use Rattle.cases.specs.Chain.{chain, personOf, dynamicOf, adviceAt, awayAt}
+use Rattle.cases.specs.Play.{WinsFrom, LeavesGood, GoodSet, Names, onward, follow, Dodges, Present}
 use Rattle.cases.proofs.Rounds.{offered-in, start-valid, prefix-valid, valid-short, round-placed, placed-round, round-placed-person, placed-round-person, snoc-each}
 use Rattle.cases.proofs.Answers.{dynamic-same}
 
@@ -103,8 +106,8 @@ module _ (c : Case) where
     away-left : awayAt c t p ≡ away (chain c) t (suc k) p
     away-left = ap (λ (j : ℕ). away (chain c) t j p) (omega arith)
 
-    advice-left : (A : ℕ) → adviceAt c t A p ≡ advice (chain c) t (suc k) A p
-    advice-left A = ap (λ (j : ℕ). advice (chain c) t j A p) (omega arith)
+    advice-left : (A : ℕ) → adviceAt c t A p .got ≡ personOf (advice (chain c) t (suc k) A p .got)
+    advice-left A = ap (λ (j : ℕ). personOf (advice (chain c) t j A p .got)) (omega arith)
 
     -- Away names all people whose placing leaves a good position, exactly if they are at most t.
     pub away-names : (A : ℕ) → (awayAt c t p .got ≡ some A) ↔ (Absent (people c) t A × GoodSet c t p A)
@@ -131,15 +134,9 @@ module _ (c : Case) where
         )
 
     -- Advice names the lowest present person whose placing leaves a good position.
-    pub record Names (A u : ℕ) : Type 0 where
-      pub listed : u < people c
-      pub present : has A u ≡ false
-      pub wins : LeavesGood c t p u
-      pub lowest : (v : ℕ) → v < u → has A v ≡ false → LeavesGood c t p v → ⊥
-
-    advice-some-names : (A : ℕ) (a : ℕ × ℕ) → adviceAt c t A p .got ≡ some a → (a .1 ≡ a .0) × Names A (a .0)
-    advice-some-names A a e =
-        let d = advice-some (chain c) t k A p a (ap (λ (w : Search (ℕ × ℕ)). w .got) (sym (advice-left A)) ∙ e) in
+    advised-names : (A : ℕ) (a : ℕ × ℕ) → advice (chain c) t (suc k) A p .got ≡ some a → (a .1 ≡ a .0) × Names c t p A (a .0)
+    advised-names A a e =
+        let d = advice-some (chain c) t k A p a e in
         let o = offered-in c p (a .0) (a .1) (d .offered) in
         let r : Round (chain c) A p (d .to) = record { person = a .0; listed = d .listed; present = d .present; move = a .1; offered = d .offered; leaves = d .leaves } in (
           o .0,
@@ -151,34 +148,35 @@ module _ (c : Case) where
           },
         )
 
-    pub advice-names : (A u : ℕ) → (adviceAt c t A p .got ≡ some (u, u)) ↔ Names A u
-    advice-names A u = (λ e. advice-some-names A (u, u) e .1, λ n. go n (adviceAt c t A p .got) refl)
+    pub advice-names : (A u : ℕ) → (adviceAt c t A p .got ≡ some u) ↔ Names c t p A u
+    advice-names A u = (λ e. there (advice (chain c) t (suc k) A p .got) refl (sym (advice-left A) ∙ e), λ n. advice-left A ∙ back n (advice (chain c) t (suc k) A p .got) refl)
       where
-        go : Names A u → (o : Option (ℕ × ℕ)) → adviceAt c t A p .got ≡ o → o ≡ some (u, u)
-        go n none e =
-            let h = advice-none (chain c) t k A p .0 (ap (λ (w : Search (ℕ × ℕ)). w .got) (sym (advice-left A)) ∙ e) u (n .listed) (n .present) in
-            absurd (true≢false (sym (leaves-good u (n .listed) .1 (n .wins)) ∙ h))
-        go n (some a) e = let m = advice-some-names A a e in named a (m .0) (same (a .0) (m .1))
-          where
-            same : (w : ℕ) → Names A w → w ≡ u
-            same w m = ℕ·trichotomy w m (decLt w u) (decLt u w)
-              where
-                ℕ·trichotomy : (w : ℕ) → Names A w → Dec (w < u) → Dec (u < w) → w ≡ u
-                ℕ·trichotomy w m (yes l) d = absurd (n .lowest w l (m .present) (m .wins))
-                ℕ·trichotomy w m (no l) (yes g) = absurd (m .lowest u g (n .present) (n .wins))
-                ℕ·trichotomy w m (no l) (no g) = omega arith
+        there : (o : Option (ℕ × ℕ)) → advice (chain c) t (suc k) A p .got ≡ o → personOf (advice (chain c) t (suc k) A p .got) ≡ some u → Names c t p A u
+        there none q e = absurd (Option·none-ne-some u (sym (ap personOf q) ∙ e))
+        there (some a) q e = subst (Names c t p A) (Option·some-injective (a .0) u (sym (ap personOf q) ∙ e)) (advised-names A a q .1)
 
-            named : (a : ℕ × ℕ) → a .1 ≡ a .0 → a .0 ≡ u → some a ≡ some (u, u)
-            named a x y = λ i. some (y i, (x ∙ y) i)
+        same : (w : ℕ) → Names c t p A w → Names c t p A u → Dec (w < u) → Dec (u < w) → w ≡ u
+        same w m n (yes l) d = absurd (n .lowest w l (m .present) (m .wins))
+        same w m n (no l) (yes g) = absurd (m .lowest u g (n .present) (n .wins))
+        same w m n (no l) (no g) = omega arith
+
+        back : Names c t p A u → (o : Option (ℕ × ℕ)) → advice (chain c) t (suc k) A p .got ≡ o → personOf (advice (chain c) t (suc k) A p .got) ≡ some u
+        back n none q =
+            absurd (true≢false (sym (leaves-good u (n .listed) .1 (n .wins)) ∙ advice-none (chain c) t k A p .0 q u (n .listed) (n .present)))
+        back n (some a) q = ap personOf q ∙ ap some (same (a .0) (advised-names A a q .1) n (decLt (a .0) u) (decLt u (a .0)))
 
     -- and "none" exactly if there is none
     pub advice-names-none : (A : ℕ) → (adviceAt c t A p .got ≡ none) ↔ ((u : ℕ) → u < people c → has A u ≡ false → LeavesGood c t p u → ⊥)
     advice-names-none A =
         let e = advice-none (chain c) t k A p in (
-          λ x u l h g. true≢false (sym (leaves-good u l .1 g) ∙ e .0 (ap (λ (w : Search (ℕ × ℕ)). w .got) (sym (advice-left A)) ∙ x) u l h),
-          λ f. ap (λ (w : Search (ℕ × ℕ)). w .got) (advice-left A) ∙ e .1 (λ u l h. not-leaves u l (f u l h)),
+          λ x u l h g. true≢false (sym (leaves-good u l .1 g) ∙ e .0 (nobody (advice (chain c) t (suc k) A p .got) (sym (advice-left A) ∙ x)) u l h),
+          λ f. advice-left A ∙ ap personOf (e .1 (λ u l h. not-leaves u l (f u l h))),
         )
       where
+        nobody : (o : Option (ℕ × ℕ)) → personOf o ≡ none → o ≡ none
+        nobody none x = refl
+        nobody (some a) x = absurd (Option·some-ne-none (a .0) x)
+
         not-leaves : (u : ℕ) → u < people c → (LeavesGood c t p u → ⊥) → leaves u ≡ false
         not-leaves u l f = go (leaves u) refl
           where
@@ -186,47 +184,64 @@ module _ (c : Case) where
             go true q = absurd (f (leaves-good u l .0 q))
             go false q = refl
 
+    -- at a position from which the desk wins it names somebody, and the desk wins on
+    win-advised : (A : ℕ) → good (chain c) t (suc k) p ≡ true → Absent (people c) t A → (u : ℕ) × (adviceAt c t A p .got ≡ some u) × Names c t p A u
+    win-advised A g a =
+        let x = good-advised (chain c) t k A p g a in
+        (x .0 .0, advice-left A ∙ ap personOf (x .1), advised-names A (x .0) (x .1) .1)
+
   -- ---- the verdict
 
+  -- at every valid position the walk's verdict is the game's
+  pub away-none-wins : (t : ℕ) (p : List ℕ) → Valid c p → Yes (awayAt c t p) ↔ WinsFrom c t p
+  unfolding away
+  away-none-wins t p v =
+      let e = dynamic-exactly (chain c) t (steps c - length p) p in
+      let s = dynamic-same c t (steps c - length p) p v in
+      (λ x. (v, s .0 (e .0 x)), λ g. e .1 (s .1 (g .1)))
+
   -- a no shows exactly the good people at the start, at most t of them
-  pub dynamic-no : (t A : ℕ) → dynamicOf c t .got ≡ some A → Absent (people c) t A × GoodSet c t [] A
-  dynamic-no t A e = go (steps c) refl e
+  pub dynamic-no : (t A : ℕ) → No (dynamicOf c t) A ↔ ((0 < steps c) × Absent (people c) t A × GoodSet c t [] A)
+  unfolding dynamic away
+  dynamic-no t A = go (steps c) refl
     where
-      go : (k : ℕ) → steps c ≡ k → dynamic (chain c) t k [] .got ≡ some A → Absent (people c) t A × GoodSet c t [] A
-      go zero h x = absurd (Option·none-ne-some A (unfold dynamic in x))
-      go (suc k) h x =
+      go : (k : ℕ) → steps c ≡ k → (dynamic (chain c) t k [] .got ≡ some A) ↔ ((0 < steps c) × Absent (people c) t A × GoodSet c t [] A)
+      go zero h = (λ x. absurd (Option·none-ne-some A x), λ y. let z : ⊥ = omega arith in absurd z)
+      go (suc k) h =
           let left : steps c ≡ length {A = ℕ} [] + suc k = omega arith in
-          away-names t k [] (start-valid c) left A .0 (ap (λ (w : Search ℕ). w .got) (away-left t k [] (start-valid c) left) ∙ (unfold away in x))
+          let n = away-names t k [] (start-valid c) left A in
+          let w : awayAt c t [] .got ≡ away (chain c) t (suc k) [] .got = ap (λ (w : Search ℕ). w .got) (away-left t k [] (start-valid c) left) in (
+            λ x. let r = n .0 (w ∙ x) in (omega arith, r .0, r .1),
+            λ y. sym w ∙ n .1 (y .1, y .2),
+          )
 
   -- ---- a yes is played
 
-  -- each person of q was present in their round
-  abbrev pub Present : List ℕ → List ℕ → Type 0
-  Present As q = (i : ℕ) → i < length q → has (getD As i 0) (getD q i 0) ≡ false
-
-  rounds-valid : (As Bs : List ℕ) (p q : List ℕ) → Valid c p → Present (Bs ++ As) p → length p ≡ length Bs → Rounds (chain c) As p q
-      → Valid c q × Present (Bs ++ As) q × (length q ≡ length Bs + length As)
-  rounds-valid [] Bs p q v w l e =
-      subst (λ x. Valid c x × Present (Bs ++ []) x × (length x ≡ length Bs + 0)) e (v, w, l ∙ sym (add-zero (length Bs)))
-  rounds-valid (A ∷ As) Bs p q v w l e =
-      let s = round-placed c A p (e .0) v (e .1) in
+  played : (t : ℕ) (As Bs : List ℕ) (p : List ℕ) → WinsFrom c t p → AllAbsent (chain c) t As → Present (Bs ++ As) p → length p ≡ length Bs → steps c ≡ length p + length As
+      → (q : List ℕ) × (follow c t As p ≡ some q) × Plan c q × Present (Bs ++ As) q
+  unfolding follow
+  played t [] Bs p w a h l e = (p, refl, record { valid = w .0; whole = omega arith }, h)
+  played t (A ∷ As) Bs p w a h l e =
+      let left : steps c - length p ≡ suc (length As) = omega arith in
+      let g = good-wins t (suc (length As)) p (w .0) .1 (subst (λ k. Dynamic (people c) (Placed c) t k p) left (w .1)) in
+      let x = win-advised t (length As) p (w .0) e A g (a .0) in
+      let u : ℕ = x .0 in
       let there : getD (Bs ++ A ∷ As) (length p) 0 ≡ A = getD-at Bs A As 0 (length p) (sym l) in
-      let here : Present (Bs ++ A ∷ As) (p ++ (s .person ∷ [])) =
-      snoc-each c (λ x i. has (getD (Bs ++ A ∷ As) i 0) x ≡ false) p (s .person) w (ap (λ (B : ℕ). has B (s .person)) there ∙ s .present) in
-      let long : length (e .0) ≡ length (Bs ++ (A ∷ [])) = omega (arith, ap length (s .next), length-append p (s .person ∷ []), length-append Bs (A ∷ [])) in
+      let here : Present (Bs ++ A ∷ As) (p ++ (u ∷ [])) =
+      snoc-each c (λ v i. has (getD (Bs ++ A ∷ As) i 0) v ≡ false) p u h (ap (λ (B : ℕ). has B u) there ∙ x .2 .present) in
       let one : Bs ++ (A ∷ []) ++ As ≡ Bs ++ A ∷ As = append-snoc Bs A As in
-      let r = rounds-valid As (Bs ++ (A ∷ [])) (e .0) q (s .valid) (subst₂ Present (sym one) (sym (s .next)) here) long (e .2) in
-      (r .0, subst (λ Xs. Present Xs q) one (r .1), omega (arith, r .2, length-append Bs (A ∷ [])))
+      let r = played t As (Bs ++ (A ∷ [])) (p ++ (u ∷ [])) (x .2 .wins) (a .1) (subst (λ Xs. Present Xs (p ++ (u ∷ []))) (sym one) here)
+      (omega (arith, length-append p (u ∷ []), length-append Bs (A ∷ []))) (omega (arith, length-append p (u ∷ []))) in
+      (r .0, ap (onward c t (λ v. follow c t As (p ++ (v ∷ [])))) (x .1) ∙ r .1, r .2, subst (λ Xs. Present Xs (r .0)) one (r .3))
 
   -- A yes can be played: under any absences of at most t people, one set a round, following the advice gives a valid plan in as many rounds as
   -- steps, everybody present in their round.
-  pub yes-is-played : (t : ℕ) (As : List ℕ) → dynamicOf c t .got ≡ none → AllAbsent (chain c) t As → length As ≡ steps c
-      → (q : List ℕ) × (followed (chain c) t As [] ≡ some q) × Plan c q × Present As q
-  yes-is-played t As e h l =
-      let g = dynamic-good (chain c) t (steps c) [] .0 e in
-      let r = yes-played (chain c) t As [] (subst (λ k. good (chain c) t k [] ≡ true) (sym l) g) h in
-      let w = rounds-valid As [] [] (r .0) (start-valid c) (λ i x. absurd (not-suc-le-zero x)) refl (r .2) in
-      (r .0, r .1, record { valid = w .0; whole = omega (arith, w .2) }, w .1)
+  pub yes-is-played : (t : ℕ) (As : List ℕ) → Yes (dynamicOf c t) → AllAbsent (chain c) t As → length As ≡ steps c
+      → (q : List ℕ) × (follow c t As [] ≡ some q) × Plan c q × Present As q
+  yes-is-played t As e a l =
+      let all-left : steps c ≡ steps c - 0 = omega arith in
+      let g = dynamic-same c t (steps c) [] (start-valid c) .0 (dynamic-exactly (chain c) t (steps c) [] .0 e) in
+      played t As [] [] (start-valid c, subst (λ k. Dynamic (people c) (Placed c) t k []) all-left g) a (λ i x. absurd (not-suc-le-zero x)) refl (omega arith)
 
   -- ---- a no is played
 
@@ -259,7 +274,7 @@ module _ (c : Case) where
 
   -- A no can be played: whatever valid position a desk comes to with the people that away names away in each round, it is short of a plan, and
   -- away again names a set of at most t people there.
-  pub no-is-played : (t A : ℕ) (q : List ℕ) → dynamicOf c t .got ≡ some A → Valid c q → Dodges c t q
+  pub no-is-played : (t A : ℕ) (q : List ℕ) → No (dynamicOf c t) A → Valid c q → Dodges c t q
       → (length q < steps c) × ((B : ℕ) × (awayAt c t q .got ≡ some B) × Absent (people c) t B)
   no-is-played t A q e v d = go (steps c - length q) refl bad
     where
@@ -276,3 +291,7 @@ module _ (c : Case) where
             omega arith,
             (goodPeople (chain c) t k q, ap (λ (j : ℕ). away (chain c) t j q .got) h ∙ away-some (chain c) t k q .1 few, goodPeople-absent (chain c) t k q few),
           )
+
+  -- so no valid plan comes through
+  pub no-plan-dodges : (t A : ℕ) (q : List ℕ) → No (dynamicOf c t) A → Plan c q → Dodges c t q → ⊥
+  no-plan-dodges t A q e p d = let l = no-is-played t A q e (p .valid) d .0 in let w = p .whole in omega arith

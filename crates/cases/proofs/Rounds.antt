@@ -5,51 +5,54 @@ use mathlib.Core.Option.{Option, none, some}
 use mathlib.Core.Bool.{Bool, true, false, _&&_, true≢false}
 use mathlib.Core.List.{List, [], _∷_, _++_, append-nil}
 use Prim.Native.Nat.{ℕ, zero, suc, _+_, _≤_, _<_}
-use native.Mathlib.Nat.{not-suc-le-zero, le-of-suc-le-suc, add-zero}
+use native.Mathlib.Nat.{not-suc-le-zero, add-zero}
 use native.Mathlib.Decide.{decLt}
 use native.Mathlib.Omega.{arith}
+use borrow.Author.Tests.{lt-ltb, le-ltb}
 use lib.ListN.{length, getD, take, length-append, List·getD-append}
 use lib.Seq.{getD-append-seam, append-snoc}
-use Rattle.sets.specs.Lists.{onlyIf, _∈_, upto, consIf, any}
+use Rattle.sets.specs.Lists.{pick, onlyIf, _∈_, consIf}
 use Rattle.sets.specs.Sets.{has}
-use Rattle.sets.proofs.Lists.{and-true, lt-or-eq, onlyIf-some, any-mem}
+use Rattle.sets.proofs.Lists.{lt-or-eq, onlyIf-some}
+use Rattle.sets.proofs.Listed.{meets-mem}
 use Rattle.sets.proofs.Bits.{has-empty}
-use Rattle.games.specs.Games.{Line, Planned, Round}
+use Rattle.games.specs.Arena.{Round}
+use Rattle.games.specs.Games.{Line, Planned}
 use Rattle.cases.specs.declared.Case.{Case}
-use Rattle.cases.specs.Case.{people, steps, roles, rolesHeld, rolesFor, zeroStep}
+use Rattle.cases.specs.declared.StepEntry.{StepEntry}
+use Rattle.cases.specs.Case.{mostRoles, entry, people, steps, rolesHeld, rolesFor, zeroStep}
 use Rattle.cases.specs.Plans.{may, holds, Valid, Plan, Without}
 use Rattle.cases.specs.Questions.{Placed}
 use Rattle.cases.specs.Chain.{offers, place, chain}
 use Rattle.cases.proofs.Rules.{holds-prefix, holds-start}
 
 -- entries from a count up read as zero
-pub getD-past : {A : Type 0} (n : ℕ) (l : List A) (i : ℕ) (d : A) → n ≤ i → getD (take n l) i d ≡ d
-getD-past zero l i d h = refl
-getD-past (suc n) [] i d h = refl
-getD-past (suc n) (x ∷ xs) zero d h = absurd (not-suc-le-zero h)
-getD-past (suc n) (x ∷ xs) (suc i) d h = getD-past n xs i d (le-of-suc-le-suc h)
+pub entry-past : {A : Type 0} (z : A) (n : ℕ) (l : List A) (i : ℕ) → n ≤ i → entry z n l i ≡ z
+unfolding entry
+entry-past z n l i h = ap (λ (b : Bool). pick b (getD l i z) z) (le-ltb i n h)
+
+pub entry-at : {A : Type 0} (z : A) (n : ℕ) (l : List A) (i : ℕ) → i < n → entry z n l i ≡ getD l i z
+unfolding entry
+entry-at z n l i h = ap (λ (b : Bool). pick b (getD l i z) z) (lt-ltb i n h)
 
 module _ (c : Case) where
   -- somebody who may do a step is known, and so is the step
   pub may-known : (u s : ℕ) → may c u s ≡ true → u < people c
   unfolding may rolesHeld
-  may-known u s e = go (decLt u (people c)) (any-mem (λ r. has (rolesHeld c u) r && has (rolesFor c s) r) (upto (roles c)) e)
+  may-known u s e = go (decLt u (people c)) (meets-mem mostRoles (rolesHeld c u) (rolesFor c s) e)
     where
-      go : Dec (u < people c) → (r : ℕ) × (r ∈ upto (roles c)) × (has (rolesHeld c u) r && has (rolesFor c s) r ≡ true) → u < people c
+      go : Dec (u < people c) → (r : ℕ) × (r < mostRoles) × (has (rolesHeld c u) r ≡ true) × (has (rolesFor c s) r ≡ true) → u < people c
       go (yes h) k = h
-      go (no h) k =
-          let none-held : rolesHeld c u ≡ 0 = getD-past (people c) (c .people) u 0 (omega arith) in
-          absurd (true≢false (sym (and-true (has (rolesHeld c u) (k .0)) (has (rolesFor c s) (k .0)) (k .2) .0) ∙ ap (λ (x : ℕ). has x (k .0)) none-held ∙ has-empty (k .0)))
+      go (no h) k = absurd (true≢false (sym (k .2) ∙ ap (λ (x : ℕ). has x (k .0)) (entry-past 0 (people c) (c .people) u (omega arith)) ∙ has-empty (k .0)))
 
   pub may-step : (u s : ℕ) → may c u s ≡ true → s < steps c
   unfolding may rolesFor
-  may-step u s e = go (decLt s (steps c)) (any-mem (λ r. has (rolesHeld c u) r && has (rolesFor c s) r) (upto (roles c)) e)
+  may-step u s e = go (decLt s (steps c)) (meets-mem mostRoles (rolesHeld c u) (rolesFor c s) e)
     where
-      go : Dec (s < steps c) → (r : ℕ) × (r ∈ upto (roles c)) × (has (rolesHeld c u) r && has (rolesFor c s) r ≡ true) → s < steps c
+      go : Dec (s < steps c) → (r : ℕ) × (r < mostRoles) × (has (rolesHeld c u) r ≡ true) × (has (rolesFor c s) r ≡ true) → s < steps c
       go (yes h) k = h
       go (no h) k =
-          let none-wanted : rolesFor c s ≡ 0 = ap (λ e. e .roles) (getD-past (steps c) (c .steps) s zeroStep (omega arith)) in
-          absurd (true≢false (sym (and-true (has (rolesHeld c u) (k .0)) (has (rolesFor c s) (k .0)) (k .2) .1) ∙ ap (λ (x : ℕ). has x (k .0)) none-wanted ∙ has-empty (k .0)))
+          absurd (true≢false (sym (k .3) ∙ ap (λ (x : StepEntry). has (x .roles) (k .0)) (entry-past zeroStep (steps c) (c .steps) s (omega arith)) ∙ has-empty (k .0)))
 
   pub offered-in : (p : List ℕ) (u m : ℕ) → m ∈ offers c p u → (m ≡ u) × (may c u (length p) ≡ true)
   unfolding offers

@@ -5,15 +5,14 @@ use mathlib.Core.Option.{Option, none, some}
 use mathlib.Core.Bool.{Bool, true, false}
 use mathlib.Core.List.{List, [], _∷_, map}
 use Prim.Native.Nat.{ℕ}
-use lib.ListN.{getD, replicate}
+use lib.ListN.{replicate}
 use Rattle.sets.specs.Lists.{from, upto, keep, all, any}
-use Rattle.sets.specs.Sets.{has, count, setFrom, size, members, within, sets}
+use Rattle.sets.specs.Sets.{has, count, setFrom, size, members, within, meets, sets}
 use Rattle.sets.specs.Stored.{number, stored, noPeople}
 use Rattle.games.specs.Walks.{plus, orElse, seek, try, ifNone, mark, tally, tooFew, present, tries, desk, plan, static, decremental, dynamic}
 use Rattle.games.specs.Limit.{Ended, limit, ended, Answer, cut}
-use Rattle.cases.specs.declared.Rule.{Rule}
 use Rattle.cases.specs.declared.Case.{Case}
-use Rattle.cases.specs.Case.{people, rolesHeld, rolesFor, table, row, rules, zeroStep, zeroRule}
+use Rattle.cases.specs.Case.{people, entry, rolesHeld, rolesFor, row, rules, zeroStep, zeroRule}
 use Rattle.cases.specs.Rules.{related, stepsIn, needed, filled, kept, rulesHold}
 use Rattle.cases.specs.Plans.{may, holds}
 use Rattle.cases.specs.Chain.{offers, place, planOf, staticOf, decrementalOf, dynamicOf}
@@ -31,19 +30,16 @@ campfire =
       rules = record { form = 1; relation = 1; step = record { 0 = 1 }; group = 1 } ∷ replicate 31 zeroRule;
     }
 
--- One table, {(0,1)}, over three people and three steps; and a rule with it: s = 2, X = {0,1}.
-abbrev pub oneTable : Case
-oneTable =
+-- Three people, three steps and one table, {(0,1)}; one rule of a form: that table, s = 2, X = {0,1}.
+abbrev pub oneTable : ℕ → Case
+oneTable form =
     record {
-      counts = record { people = 3; steps = 3; roles = 0; tables = 1; rules = 0 };
+      counts = record { people = 3; steps = 3; roles = 0; tables = 1; rules = 1 };
       people = replicate 32 0;
       steps = replicate 8 zeroStep;
       rows = stored 2 ∷ replicate 191 noPeople;
-      rules = replicate 32 zeroRule;
+      rules = record { form = form; relation = 2; step = record { 0 = 2 }; group = 3 } ∷ replicate 31 zeroRule;
     }
-
-abbrev pub ruleOf : ℕ → Rule
-ruleOf form = record { form = form; relation = 2; step = record { 0 = 2 }; group = 3 }
 
 -- ---- What is asked, and what is said
 
@@ -52,15 +48,15 @@ pub data Asked : Type 0 where
   plan? static? decremental? dynamic? : ℕ → Asked
   keeps? : ℕ → List ℕ → Asked
 
--- a plan's persons, or a shown set's, with the trials
+-- a plan's persons or a shown set's, and the trials; "limit" and its count
 pub data Said : Type 0 where
   planned showing : List ℕ → ℕ → Said
-  wins stops : ℕ → Said
+  wins unplanned stops : ℕ → Said
   keeps breaks : Said
 
 pub sayPlan : Ended (Option (List ℕ)) → ℕ → Said
 sayPlan limit n = stops n
-sayPlan (ended none) n = showing [] n
+sayPlan (ended none) n = unplanned n
 sayPlan (ended (some q)) n = planned q n
 
 pub sayVerdict : Ended (Option ℕ) → ℕ → Said
@@ -74,15 +70,15 @@ sayRule false = breaks
 
 pub answer : Asked → Said
 unfolding
-    from upto keep all any has count setFrom size members within sets number
+    from upto keep all any has count setFrom size members within meets sets number
     plus orElse seek try ifNone mark tally tooFew present tries desk plan static decremental dynamic cut
-    rolesHeld rolesFor table row rules related stepsIn needed filled kept rulesHold may holds offers place
+    entry rolesHeld rolesFor row rules related stepsIn needed filled kept rulesHold may holds offers place
     sayPlan sayVerdict sayRule
 answer (plan? t) = let a = cut 1000 (planOf campfire) in sayPlan (a .out) (a .count)
 answer (static? t) = let a = cut 1000 (staticOf campfire t) in sayVerdict (a .out) (a .count)
 answer (decremental? t) = let a = cut 1000 (decrementalOf campfire t) in sayVerdict (a .out) (a .count)
 answer (dynamic? t) = let a = cut 1000 (dynamicOf campfire t) in sayVerdict (a .out) (a .count)
-answer (keeps? form p) = sayRule (kept oneTable (ruleOf form) (λ i. getD p i 0))
+answer (keeps? form p) = sayRule (holds (oneTable form) p)
 
 -- ---- The table
 

@@ -1,17 +1,19 @@
 -- The arena of a case, steps as listed, and the walks on it.
-use mathlib.Core.Path.{_≡_}
 use mathlib.Core.Bool.{Bool, true, false}
-use mathlib.Core.Option.{Option, some}
+use mathlib.Core.Option.{Option, none, some}
 use mathlib.Core.List.{List, [], _∷_, _++_}
-use Prim.Native.Nat.{ℕ, _-_, _<_}
-use lib.ListN.{length, getD, take}
+use Prim.Native.Nat.{ℕ, _-_}
+use lib.ListN.{length}
 use Rattle.sets.specs.Lists.{onlyIf, consIf}
-use Rattle.sets.specs.Sets.{has}
 use Rattle.games.specs.Arena.{Arena}
 use Rattle.games.specs.Walks.{Search, plan, static, decremental, dynamic, advice, away}
 use Rattle.cases.specs.declared.Case.{Case}
 use Rattle.cases.specs.Case.{people, steps}
 use Rattle.cases.specs.Plans.{may, holds}
+
+abbrev pub personOf : Option (ℕ × ℕ) → Option ℕ
+personOf none = none
+personOf (some a) = some (a .0)
 
 module _ (c : Case) where
   -- a move is a person: one trial where they may do the next step, else none
@@ -39,14 +41,11 @@ module _ (c : Case) where
   abbrev pub dynamicOf : ℕ → Search ℕ
   dynamicOf t = dynamic chain t (steps c) []
 
-  -- ---- Playing the dynamic game, at a position
+  -- ---- The walks of play, at a position
 
-  abbrev pub adviceAt : ℕ → ℕ → List ℕ → Search (ℕ × ℕ)
-  adviceAt t A p = advice chain t (steps c - length p) A p
+  -- advice names a person; the move is the same person
+  abbrev pub adviceAt : ℕ → ℕ → List ℕ → Search ℕ
+  adviceAt t A p = let w = advice chain t (steps c - length p) A p in record { got = personOf (w .got); trials = w .trials }
 
   abbrev pub awayAt : ℕ → List ℕ → Search ℕ
   awayAt t p = away chain t (steps c - length p) p
-
-  -- a desk plays on against away: each of its persons was not in the set that away named before their step
-  abbrev pub Dodges : ℕ → List ℕ → Type 0
-  Dodges t q = (i : ℕ) → i < length q → (A : ℕ) → awayAt t (take i q) .got ≡ some A → has A (getD q i 0) ≡ false

@@ -4,5 +4,8 @@ pub mod Rules
 pub mod Plans
 pub mod Questions
 pub mod Chain
+pub mod Shown
+pub mod Play
+-- What contracts of functions here cite besides: positions in memory, and the rule test's loop.
 pub mod Positions
 pub mod Pairs

@@ -1,21 +1,20 @@
 -- Who may do a step, and when a position is valid.
 use mathlib.Core.Path.{_≡_}
-use mathlib.Core.Bool.{Bool, true, false, _&&_}
+use mathlib.Core.Bool.{Bool, true, false}
 use mathlib.Core.List.{List}
 use Prim.Native.Nat.{ℕ, _≤_, _<_}
 use lib.Dec.{ltb}
 use lib.ListN.{length, getD, take}
-use Rattle.sets.specs.Lists.{upto, any}
-use Rattle.sets.specs.Sets.{has}
+use Rattle.sets.specs.Sets.{has, meets}
 use Rattle.cases.specs.declared.Case.{Case}
-use Rattle.cases.specs.Case.{steps, roles, rolesHeld, rolesFor}
+use Rattle.cases.specs.Case.{mostRoles, steps, rolesHeld, rolesFor}
 use Rattle.cases.specs.Rules.{rulesHold}
 
 -- A person may do a step when one of their roles is among the step's roles.
 unfoldable pub may : Case → ℕ → ℕ → Bool
-may c u s = any (λ r. has (rolesHeld c u) r && has (rolesFor c s) r) (upto (roles c))
+may c u s = meets mostRoles (rolesHeld c u) (rolesFor c s)
 
--- A position is a list of persons for the first steps: every rule, all of whose steps are filled, holds at it.
+-- A position is a list of persons for the first steps. At position p every rule holds, all of whose steps are filled.
 unfoldable pub holds : Case → List ℕ → Bool
 holds c p = rulesHold c (λ i. ltb i (length p)) (λ i. getD p i 0)
 

@@ -1,10 +1,8 @@
--- The four questions, and what playing the dynamic game means for a case.
+-- The four questions.
 use mathlib.Core.Path.{_≡_}
-use mathlib.Core.Logic.{_↔_}
 use mathlib.Core.Bool.{Bool, true, false}
 use mathlib.Core.List.{List, [], _∷_, _++_}
-use Prim.Native.Nat.{ℕ, _-_, _<_}
-use lib.ListN.{length}
+use Prim.Native.Nat.{ℕ}
 use Rattle.sets.specs.Sets.{has}
 use Rattle.games.specs.Games.{Absent, Decremental, Dynamic}
 use Rattle.cases.specs.declared.Case.{Case}
@@ -19,7 +17,8 @@ HasPlan c = (q : List ℕ) × Plan c q
 abbrev pub StaticYes : Case → ℕ → Type 0
 StaticYes c t = (A : ℕ) → Absent (people c) t A → (q : List ℕ) × Plan c q × Without A q
 
--- With A away, the desk puts a present person into the next step, keeping the position valid. Past work by someone now away still counts.
+-- With A away, the desk puts a present person into the next step, keeping the position valid. Past work by someone now away still counts. After as
+-- many rounds as steps the position is a plan.
 pub record Placed (c : Case) (A : ℕ) (p q : List ℕ) : Type 0 where
   pub person : ℕ
   pub present : has A person ≡ false
@@ -33,17 +32,3 @@ DecrementalYes c t = Decremental (people c) (Placed c) t (steps c) 0 []
 -- Dynamic: does it, where before each step the away side names any set of at most t people?
 abbrev pub DynamicYes : Case → ℕ → Type 0
 DynamicYes c t = Dynamic (people c) (Placed c) t (steps c) []
-
--- ---- Playing the dynamic game
-
--- the desk wins it from position p
-abbrev pub WinsFrom : Case → ℕ → List ℕ → Type 0
-WinsFrom c t p = Dynamic (people c) (Placed c) t (steps c - length p) p
-
--- person u's placing leaves a valid position from which the desk wins: a good one
-abbrev pub LeavesGood : Case → ℕ → List ℕ → ℕ → Type 0
-LeavesGood c t p u = Valid c (p ++ (u ∷ [])) × WinsFrom c t (p ++ (u ∷ []))
-
--- S is the set of the people whose placing leaves a good position
-abbrev pub GoodSet : Case → ℕ → List ℕ → ℕ → Type 0
-GoodSet c t p S = (u : ℕ) → u < people c → (has S u ≡ true) ↔ LeavesGood c t p u

@@ -46,7 +46,8 @@ pub struct Rule {
     pub group: u8,
 }
 
-// A case. A person is a set of roles, bit r for role r. The tables' rows stand table by table, in each one row per person.
+// A case. A person is a set of roles, bit r for role r. The tables' rows stand table by table without gaps, in each one row per person: the row of
+// person u in table k is entry k * people + u.
 pub struct Case {
     pub counts: Counts,
     pub people: [u16; Case::PEOPLE],
@@ -74,7 +75,7 @@ impl Position {
         if self.len <= i {
             return Person(0);
         }
-        if 8 <= i {
+        if Case::STEPS <= (i as usize) {
             return Person(0);
         }
         self.who[i as usize]
@@ -85,7 +86,7 @@ impl Position {
         ensures { λ r. ⌜ r ≡ placedNext self v ⌝ }
     {
         let at = self.len;
-        if 8 <= at {
+        if Case::STEPS <= (at as usize) {
             return self;
         }
         let mut next = self;
@@ -153,8 +154,8 @@ struct Paired {
     some: People,
 }
 
-// The test of a single rule, for everybody at once: of the people who could do one more step, those with whom the rule is kept. `pairs[x]` are the
-// people with whom the pair of s and step x is in the relation. Forms 1 and 3 ask for the pair with every step of X, form 2 for some pair.
+// The test of a single rule, for everybody at once: the people with whom, placed next, the rule is kept. `pairs[x]` are the people with whom the
+// pair of s and step x is in the relation. Forms 1 and 3 ask for the pair with every step of X, form 2 for some pair.
 pub fn keepers(form: u8, group: u8, pairs: [People; Case::STEPS]) -> People
     ensures { λ r. ⌜ number r ≡ keepersOf form group pairs ⌝ }
 {
@@ -181,7 +182,7 @@ fn over_group(group: u8, pairs: [People; Case::STEPS]) -> Paired
     let mut every = everybody_if(true);
     let mut some = everybody_if(false);
     let mut x: u8 = 0;
-    while x < 8 {
+    while (x as usize) < Case::STEPS {
         let here = pairs[x as usize];
         let listed = holds(group as u16, x);
         x += 1;

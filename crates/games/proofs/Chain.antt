@@ -1,8 +1,6 @@
--- Dynamic yes gives decremental yes, that gives static yes, and that a plan. A lower t never turns a yes into a no.
+-- Dynamic yes gives decremental yes, that gives static yes, and that a plan: for any notion of a round.
 use mathlib.Core.Path.{_≡_, refl}
-use mathlib.Core.Bool.{true}
-use Prim.Native.Nat.{ℕ, zero, suc, _≤_}
-use native.Mathlib.Nat.{le-trans}
+use Prim.Native.Nat.{ℕ, zero, suc}
 use Rattle.games.specs.Games.{Absent, Contains, Line, Planned, Static, Decremental, Dynamic}
 use Rattle.games.proofs.Verdicts.{nobody, contains-empty}
 

@@ -14,24 +14,21 @@ use Rattle.sets.specs.Lists.{onlyIf, _∈_, upto, keep}
 use Rattle.sets.specs.Sets.{has, count, setOf, setFrom, size}
 use Rattle.sets.proofs.Lists.{onlyIf-some, onlyIf-none, keep-cong}
 use Rattle.sets.proofs.Counting.{pigeon, setOf-lt, has-setOf, size-setOf, length-keep, setFrom-keep}
-use Rattle.games.specs.Arena.{Arena}
+use Rattle.games.specs.Arena.{Arena, Round}
 use Rattle.games.specs.Walks.{Walk, Search, ifNone, lacking, tally, tooFew, tries, dynamic}
-use Rattle.games.specs.Games.{Absent, Dynamic, Round, canLeave, good, goodPeople}
+use Rattle.games.specs.Games.{Absent, Dynamic}
+use Rattle.games.specs.Good.{canLeave, good, goodCount, goodPeople}
 use Rattle.games.proofs.Searches.{gets, gets-none, gets-lacking, canLeave-cong, canLeave-round, round-canLeave, tries-gets, tally-keep}
 
 module _ (G : Arena) where
-  -- how many people's placing leaves a good position with k steps left
-  abbrev pub goodCount : ℕ → ℕ → G .Pos → ℕ
-  goodCount t k p = count (canLeave G (good G t k) p) (G .people)
-
   -- ---- the walk finds the good people
 
-  -- the position is unbeaten: how the walk judges what a person leaves
-  abbrev pub unbeaten : ℕ → ℕ → G .Pos → Search (Unit {0})
-  unbeaten t k q = ifNone (tt {0}) (dynamic G t k q)
+  -- the position is goodWalk: how the walk judges what a person leaves
+  abbrev pub goodWalk : ℕ → ℕ → G .Pos → Search (Unit {0})
+  goodWalk t k q = ifNone (tt {0}) (dynamic G t k q)
 
   found : ℕ → ℕ → G .Pos → List ℕ
-  found t k p = tally (tries G (unbeaten t k) p) (upto (G .people)) (suc t) .got
+  found t k p = tally (tries G (goodWalk t k) p) (upto (G .people)) (suc t) .got
 
   abbrev pub Judged : ℕ → ℕ → Type 0
   Judged t k = (q : G .Pos) → gets (dynamic G t k q .got) ≡ not (good G t k q)
@@ -40,24 +37,24 @@ module _ (G : Arena) where
   not-not true = refl
   not-not false = refl
 
-  pub well : (t k : ℕ) → Judged t k → (q : G .Pos) → gets (unbeaten t k q .got) ≡ good G t k q
+  pub well : (t k : ℕ) → Judged t k → (q : G .Pos) → gets (goodWalk t k q .got) ≡ good G t k q
   unfolding ifNone
   well t k ih q = gets-lacking (tt {0}) (dynamic G t k q .got) ∙ ap not (ih q) ∙ not-not (good G t k q)
 
   found-is : (t k : ℕ) → Judged t k → (p : G .Pos) → found t k p ≡ take (suc t) (keep (canLeave G (good G t k) p) (upto (G .people)))
   unfolding found
   found-is t k ih p =
-      tally-keep (tries G (unbeaten t k) p) (upto (G .people)) (suc t)
-      ∙ ap (take (suc t)) (keep-cong _ (canLeave G (good G t k) p) (upto (G .people)) (λ u m. tries-gets G (unbeaten t k) p u ∙ canLeave-cong G _ (good G t k) (well t k ih) p u))
+      tally-keep (tries G (goodWalk t k) p) (upto (G .people)) (suc t)
+      ∙ ap (take (suc t)) (keep-cong _ (canLeave G (good G t k) p) (upto (G .people)) (λ u m. tries-gets G (goodWalk t k) p u ∙ canLeave-cong G _ (good G t k) (well t k ih) p u))
 
-  found-length : (t k : ℕ) → Judged t k → (p : G .Pos) → length (found t k p) ≡ min (suc t) (goodCount t k p)
+  found-length : (t k : ℕ) → Judged t k → (p : G .Pos) → length (found t k p) ≡ min (suc t) (goodCount G t k p)
   found-length t k ih p = rw (found-is t k ih p, length-take, length-keep)
 
   -- the walk gets nothing exactly if the position is good
   pub judged : (t k : ℕ) (p : G .Pos) → gets (dynamic G t k p .got) ≡ not (good G t k p)
   unfolding dynamic good tooFew found
   judged t zero p = refl
-  judged t (suc k) p = gets-if (leb (length (found t k p)) t) (setFrom (found t k p)) ∙ ap (λ (n : ℕ). leb n t) (found-length t k (judged t k) p) ∙ few (goodCount t k p)
+  judged t (suc k) p = gets-if (leb (length (found t k p)) t) (setFrom (found t k p)) ∙ ap (λ (n : ℕ). leb n t) (found-length t k (judged t k) p) ∙ few (goodCount G t k p)
     where
       gets-if : (b : Bool) (x : ℕ) → gets (onlyIf b x) ≡ b
       gets-if true x = refl
@@ -87,10 +84,10 @@ module _ (G : Arena) where
   -- the set shown is that of all good people, who are at most t
   pub record DynamicShown (t k : ℕ) (p : G .Pos) (A : ℕ) : Type 0 where
     pub all : A ≡ goodPeople G t k p
-    pub few : goodCount t k p ≤ t
+    pub few : goodCount G t k p ≤ t
     pub absent : Absent (G .people) t A
 
-  pub goodPeople-absent : (t k : ℕ) (p : G .Pos) → goodCount t k p ≤ t → Absent (G .people) t (goodPeople G t k p)
+  pub goodPeople-absent : (t k : ℕ) (p : G .Pos) → goodCount G t k p ≤ t → Absent (G .people) t (goodPeople G t k p)
   unfolding goodPeople
   goodPeople-absent t k p h =
       record { known = setOf-lt (canLeave G (good G t k) p) (G .people); few = rw (size-setOf (canLeave G (good G t k) p) (G .people)) h }
@@ -99,7 +96,7 @@ module _ (G : Arena) where
   unfolding dynamic tooFew found goodPeople
   dynamic-shown t k p A e =
       let i = onlyIf-some (leb (length (found t k p)) t) (setFrom (found t k p)) A e in
-      let few : goodCount t k p ≤ t = omega (arith, leb-true (length (found t k p)) t (i .0), found-length t k (judged t k) p) in
+      let few : goodCount G t k p ≤ t = omega (arith, leb-true (length (found t k p)) t (i .0), found-length t k (judged t k) p) in
       let all : A ≡ goodPeople G t k p =
       sym (i .1)
       ∙ ap setFrom (found-is t k (judged t k) p ∙ take-all (suc t) (keep (canLeave G (good G t k) p) (upto (G .people))) (omega (arith, length-keep (canLeave G (good G t k) p) (G .people))))
@@ -108,16 +105,16 @@ module _ (G : Arena) where
 
   -- ---- counting agrees with the game
 
-  pub good-more : (t k : ℕ) (p : G .Pos) → (good G t (suc k) p ≡ true) ↔ (t < goodCount t k p)
+  pub good-more : (t k : ℕ) (p : G .Pos) → (good G t (suc k) p ≡ true) ↔ (t < goodCount G t k p)
   unfolding good
-  good-more t k p = (ltb-true t (goodCount t k p), lt-ltb t (goodCount t k p))
+  good-more t k p = (ltb-true t (goodCount G t k p), lt-ltb t (goodCount G t k p))
 
-  pub good-few : (t k : ℕ) (p : G .Pos) → (good G t (suc k) p ≡ false) ↔ (goodCount t k p ≤ t)
+  pub good-few : (t k : ℕ) (p : G .Pos) → (good G t (suc k) p ≡ false) ↔ (goodCount G t k p ≤ t)
   unfolding good
-  good-few t k p = (ltb-false t (goodCount t k p), le-ltb t (goodCount t k p))
+  good-few t k p = (ltb-false t (goodCount G t k p), le-ltb t (goodCount G t k p))
 
   -- where more than t people are good, one of them is left by any t absentees
-  pub good-left : (t k A : ℕ) (p : G .Pos) → t < goodCount t k p → Absent (G .people) t A → (q : G .Pos) × Round G A p q × (good G t k q ≡ true)
+  pub good-left : (t k A : ℕ) (p : G .Pos) → t < goodCount G t k p → Absent (G .people) t A → (q : G .Pos) × Round G A p q × (good G t k q ≡ true)
   unfolding size
   good-left t k A p h a =
       let v = pigeon (canLeave G (good G t k) p) (has A) (G .people) (omega (arith, a .few)) in
@@ -143,12 +140,12 @@ module _ (G : Arena) where
       there ih e A a = let d = good-left t k A p (good-more t k p .0 e) a in (d .0, d .1, ih (d .0) .0 (d .2))
 
       back : ((q : G .Pos) → (good G t k q ≡ true) ↔ Dynamic (G .people) (Round G) t k q) → Dynamic (G .people) (Round G) t (suc k) p → good G t (suc k) p ≡ true
-      back ih g = go (ltb t (goodCount t k p)) refl
+      back ih g = go (ltb t (goodCount G t k p)) refl
         where
-          go : (b : Bool) → ltb t (goodCount t k p) ≡ b → good G t (suc k) p ≡ true
-          go true e = good-more t k p .1 (ltb-true t (goodCount t k p) e)
+          go : (b : Bool) → ltb t (goodCount G t k p) ≡ b → good G t (suc k) p ≡ true
+          go true e = good-more t k p .1 (ltb-true t (goodCount G t k p) e)
           go false e =
-              let r = g (goodPeople G t k p) (goodPeople-absent t k p (ltb-false t (goodCount t k p) e)) in
+              let r = g (goodPeople G t k p) (goodPeople-absent t k p (ltb-false t (goodCount G t k p) e)) in
               absurd (true≢false (sym (ih (r .0) .1 (r .2)) ∙ good-away t k p (r .0) (r .1)))
 
   -- the verdict is the game's

@@ -7,4 +7,4 @@ pub mod Limits
 pub mod Play
 pub mod Trials
 pub mod Matched
-pub mod Agree
+pub mod Walks

@@ -39,7 +39,7 @@ module _ {B : Type 0} where
   pub cut-count : (l : ℕ) (w : Walk B) → cut l w .out ≡ limit → cut l w ≡ stopped l
   cut-count l w e = cut-past l w (cut-limit l w .0 e)
 
-  -- a finished answer is the walk's, with its trials
+  -- a finished answer is the walk's, which needs no more than the limit
   pub cut-ended : (l : ℕ) (w : Walk B) (b : B) → (cut l w .out ≡ ended b) ↔ ((w .trials ≤ l) × (w .got ≡ b))
   unfolding cut
   cut-ended l w b = (λ e. go (leb (w .trials) l) refl e, λ h. ap (λ (a : Answer B). a .out) (cut-within l w (h .0)) ∙ ap ended (h .1))
@@ -47,6 +47,10 @@ module _ {B : Type 0} where
       go : (c : Bool) → leb (w .trials) l ≡ c → pick c (whole w) (stopped l) .out ≡ ended b → (w .trials ≤ l) × (w .got ≡ b)
       go true q e = (leb-true (w .trials) l q, cc)
       go false q e = absurd (limit-ended b e)
+
+  -- and then the count is the walk's trials
+  pub cut-trials : (l : ℕ) (w : Walk B) (b : B) → cut l w .out ≡ ended b → cut l w .count ≡ w .trials
+  cut-trials l w b e = ap (λ (a : Answer B). a .count) (cut-within l w (cut-ended l w b .0 e .0))
 
   -- a higher limit never alters a finished answer
   pub cut-higher : (l m : ℕ) (w : Walk B) (b : B) → l ≤ m → cut l w .out ≡ ended b → cut m w ≡ cut l w

@@ -11,12 +11,13 @@ use Rattle.sets.specs.Lists.{_∈_, upto, any}
 use Rattle.sets.specs.Sets.{has}
 use Rattle.sets.proofs.Lists.{any-cong}
 use Rattle.sets.proofs.Ascending.{Ascending, upto-ascending, keep-ascending, lower-before}
-use Rattle.games.specs.Arena.{Arena}
+use Rattle.games.specs.Arena.{Arena, Round}
 use Rattle.games.specs.Walks.{Walk, Search, plus, seek, try, ifNone, having, ifSome, present, dynamic, advice, away}
-use Rattle.games.specs.Games.{Absent, Round, passes, canLeave, good, goodPeople}
+use Rattle.games.specs.Games.{Absent}
+use Rattle.games.specs.Good.{passes, canLeave, good, goodCount, goodPeople}
 use Rattle.games.specs.Play.{AllAbsent, placed, onward, followed, Rounds, Stopped}
 use Rattle.games.proofs.Searches.{gets, gets-some, gets-none, having-some, Found, seek-gets, seek-found, seek-none, found-in, try-some, present-in, present-mem, round-canLeave}
-use Rattle.games.proofs.Good.{goodCount, unbeaten, well, judged, dynamic-good, dynamic-bad, DynamicShown, dynamic-shown, goodPeople-absent, good-more, good-few, good-left, good-away}
+use Rattle.games.proofs.Good.{goodWalk, well, judged, dynamic-good, dynamic-bad, DynamicShown, dynamic-shown, goodPeople-absent, good-more, good-few, good-left, good-away}
 
 module _ (G : Arena) where
   -- ---- advice
@@ -24,19 +25,19 @@ module _ (G : Arena) where
   module _ (t k A : ℕ) (p : G .Pos) where
     -- what is tried of person u
     about : ℕ → Search (ℕ × G .Move)
-    about u = seek (λ m. ifSome (u, m) (try (unbeaten G t k) (G .after p m))) (G .moves p u)
+    about u = seek (λ m. ifSome (u, m) (try (goodWalk G t k) (G .after p m))) (G .moves p u)
 
     about-gets : (u : ℕ) → gets (about u .got) ≡ canLeave G (good G t k) p u
     unfolding about ifSome canLeave
-    about-gets u = seek-gets (λ m. ifSome (u, m) (try (unbeaten G t k) (G .after p m))) (G .moves p u) ∙ any-cong _ _ (G .moves p u) (λ m i. go m (G .after p m))
+    about-gets u = seek-gets (λ m. ifSome (u, m) (try (goodWalk G t k) (G .after p m))) (G .moves p u) ∙ any-cong _ _ (G .moves p u) (λ m i. go m (G .after p m))
       where
         same : {C : Type 0} (c : C) (o : Option (Unit {0})) → gets (having c o) ≡ gets o
         same c none = refl
         same c (some b) = refl
 
-        go : (m : G .Move) (o : Option (G .Pos)) → gets {B = ℕ × G .Move} (having (u, m) (try (unbeaten G t k) o .got)) ≡ passes G (good G t k) o
+        go : (m : G .Move) (o : Option (G .Pos)) → gets {B = ℕ × G .Move} (having (u, m) (try (goodWalk G t k) o .got)) ≡ passes G (good G t k) o
         go m none = unfold try in refl
-        go m (some q) = unfold plus try in (same {C = ℕ × G .Move} (u, m) (unbeaten G t k q .got) ∙ well G t k (judged G t k) q)
+        go m (some q) = unfold plus try in (same {C = ℕ × G .Move} (u, m) (goodWalk G t k q .got) ∙ well G t k (judged G t k) q)
 
     -- the person named: present, a move of theirs leaves a good position, and no lower present person's does
     pub record Advised (a : ℕ × G .Move) : Type 0 where
@@ -53,11 +54,11 @@ module _ (G : Arena) where
     advice-some a e =
         let u = seek-found about (present G A) a e in
         let i = present-in G A (u .at) (found-in about (present G A) a u) in
-        let tells : G .Move → Search (ℕ × G .Move) = λ m. ifSome (u .at, m) (try (unbeaten G t k) (G .after p m)) in
+        let tells : G .Move → Search (ℕ × G .Move) = λ m. ifSome (u .at, m) (try (goodWalk G t k) (G .after p m)) in
         let m = seek-found tells (G .moves p (u .at)) a (u .hit) in
-        let n = having-some (u .at, m .at) a (try (unbeaten G t k) (G .after p (m .at)) .got) (m .hit) in
-        let w = gets-some (try (unbeaten G t k) (G .after p (m .at)) .got) (n .0) in
-        let q = try-some (unbeaten G t k) (G .after p (m .at)) (w .0) (w .1) in
+        let n = having-some (u .at, m .at) a (try (goodWalk G t k) (G .after p (m .at)) .got) (m .hit) in
+        let w = gets-some (try (goodWalk G t k) (G .after p (m .at)) .got) (n .0) in
+        let q = try-some (goodWalk G t k) (G .after p (m .at)) (w .0) (w .1) in
         subst Advised (n .1)
         (record {
           to = q .0;

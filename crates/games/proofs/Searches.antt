@@ -10,9 +10,9 @@ use lib.Seq.{take-nil}
 use Rattle.sets.specs.Lists.{_∈_, consIf, upto, keep, any}
 use Rattle.sets.specs.Sets.{has}
 use Rattle.sets.proofs.Lists.{keep-in, keep-mem, upto-in, upto-mem, any-cong, any-mem, mem-any}
-use Rattle.games.specs.Arena.{Arena}
+use Rattle.games.specs.Arena.{Arena, Round}
 use Rattle.games.specs.Walks.{Walk, Search, plus, orElse, seek, try, lacking, ifNone, having, ifSome, mark, tally, present, tries, desk}
-use Rattle.games.specs.Games.{Round, passes, canLeave}
+use Rattle.games.specs.Good.{passes, canLeave}
 
 -- ---- something or nothing
 

@@ -3,10 +3,17 @@ use mathlib.Core.Path.{_≡_, refl, ap, ap₂, _∙_}
 use mathlib.Core.Logic.{inl, inr}
 use mathlib.Core.Option.{Option, none, some, Option·none-ne-some, Option·some-ne-none}
 use mathlib.Core.List.{List, [], _∷_}
-use Prim.Native.Nat.{ℕ, zero, suc, _+_}
-use Rattle.sets.specs.Lists.{_∈_}
+use Prim.Native.Nat.{ℕ, zero, suc, _+_, _<_}
+use native.Mathlib.Nat.{not-suc-le-zero, le-of-suc-le-suc}
+use native.Mathlib.Omega.{arith}
+use borrow.Author.Tests.{leb-true}
+use lib.Dec.{leb}
+use lib.ListN.{length}
+use Rattle.sets.specs.Lists.{_∈_, upto}
+use Rattle.sets.specs.Sets.{setFrom}
+use Rattle.sets.proofs.Lists.{onlyIf-some}
 use Rattle.games.specs.Arena.{Arena}
-use Rattle.games.specs.Walks.{Walk, Search, plus, orElse, seek, try, present, tries, desk}
+use Rattle.games.specs.Walks.{Walk, Search, No, unbeaten, plus, orElse, seek, try, ifSome, mark, tally, tooFew, present, tries, desk, dynamic, advice}
 use Rattle.games.proofs.Searches.{seek-none}
 
 abbrev pub sum : {A : Type 0} → (A → ℕ) → List A → ℕ
@@ -50,3 +57,40 @@ module _ (G : Arena) {B : Type 0} (judge : G .Pos → Search B) where
   desk-trials A p e =
       seek-trials (tries G judge p) (present G A) e
       ∙ sum-cong _ _ (present G A) (λ u i. tries-trials p u (seek-none (tries G judge p) (present G A) e u i))
+
+-- ---- the dynamic walk and advice
+
+-- a tally that finds fewer than it looks for has gone over the whole list
+pub tally-trials : {B : Type 0} (f : ℕ → Search B) (us : List ℕ) (w : ℕ) → length (tally f us w .got) < w → tally f us w .trials ≡ sum (λ u. f u .trials) us
+unfolding mark tally
+tally-trials f [] w h = refl
+tally-trials f (u ∷ us) zero h = absurd (not-suc-le-zero h)
+tally-trials {B} f (u ∷ us) (suc w) h = go (f u .got) h (λ v. tally-trials f us v)
+  where
+    go : (o : Option B) → length (mark o (f u .trials) u (λ v. tally f us v) w .got) < suc w
+        → ((v : ℕ) → length (tally f us v .got) < v → tally f us v .trials ≡ sum (λ u. f u .trials) us)
+        → mark o (f u .trials) u (λ v. tally f us v) w .trials ≡ f u .trials + sum (λ u. f u .trials) us
+    go (some b) l r = ap (λ (n : ℕ). f u .trials + n) (r w (le-of-suc-le-suc l))
+    go none l r = ap (λ (n : ℕ). f u .trials + n) (r (suc w) l)
+
+module _ (G : Arena) where
+  -- a no of the dynamic walk has tried everybody
+  pub dynamic-trials : (t k : ℕ) (p : G .Pos) (A : ℕ) → No (dynamic G t (suc k) p) A
+      → dynamic G t (suc k) p .trials ≡ sum (λ u. tries G (λ q. unbeaten (dynamic G t k q)) p u .trials) (upto (G .people))
+  unfolding dynamic tooFew
+  dynamic-trials t k p A e =
+      let f : ℕ → Search (Unit {0}) = tries G (λ q. unbeaten (dynamic G t k q)) p in
+      let found : List ℕ = tally f (upto (G .people)) (suc t) .got in
+      tally-trials f (upto (G .people)) (suc t) (omega (arith, leb-true (length found) t (onlyIf-some (leb (length found) t) (setFrom found) A e .0)))
+
+  -- advice that names nobody has tried every move of every person present
+  pub advice-trials : (t k A : ℕ) (p : G .Pos) → advice G t (suc k) A p .got ≡ none
+      → advice G t (suc k) A p .trials ≡ sum (λ u. sum (λ m. cost G (λ q. unbeaten (dynamic G t k q)) (G .after p m)) (G .moves p u)) (present G A)
+  unfolding advice ifSome
+  advice-trials t k A p e =
+      let judge : G .Pos → Search (Unit {0}) = λ q. unbeaten (dynamic G t k q) in
+      let about : ℕ → Search (ℕ × G .Move) = λ u. seek (λ m. ifSome (u, m) (try judge (G .after p m))) (G .moves p u) in
+      seek-trials about (present G A) e
+      ∙ sum-cong _ _ (present G A) (λ u i.
+      seek-trials (λ m. ifSome (u, m) (try judge (G .after p m))) (G .moves p u) (seek-none about (present G A) e u i)
+      ∙ sum-cong _ _ (G .moves p u) (λ m j. try-trials G judge (G .after p m)))

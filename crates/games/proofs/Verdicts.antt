@@ -14,9 +14,10 @@ use Rattle.sets.proofs.Ascending.{Ascending, upto-ascending, keep-ascending, lo
 use Rattle.sets.proofs.Bits.{has-empty}
 use Rattle.sets.proofs.Counting.{size-empty}
 use Rattle.sets.proofs.Listed.{sets-mem, sets-in, within-mem, mem-within, sets-ascending}
-use Rattle.games.specs.Arena.{Arena}
+use Rattle.games.specs.Arena.{Arena, Round}
 use Rattle.games.specs.Walks.{Walk, Search, plus, seek, ifNone, lacking, present, tries, desk, try, plan, static, decremental}
-use Rattle.games.specs.Games.{Absent, Contains, Line, Planned, Static, Decremental, Round, Earliest, First}
+use Rattle.games.specs.Games.{Absent, Contains, Line, Planned, Static, Decremental}
+use Rattle.games.specs.Good.{Earliest, First}
 use Rattle.games.proofs.Searches.{gets, gets-some, gets-none, gets-lacking, lacking-some, lacking-none, Found, seek-found, seek-none, found-in, split-mem, try-some, present-in, present-mem, tries-gets, round-canLeave, desk-wins}
 
 -- ---- sets of absentees

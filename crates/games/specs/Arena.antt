@@ -1,7 +1,11 @@
 -- An arena says who can do what at a position. Taking the steps as listed makes one arena; another way to play makes another.
-use mathlib.Core.Option.{Option}
+use mathlib.Core.Path.{_≡_}
+use mathlib.Core.Bool.{Bool, false}
+use mathlib.Core.Option.{Option, some}
 use mathlib.Core.List.{List}
-use Prim.Native.Nat.{ℕ}
+use Prim.Native.Nat.{ℕ, _<_}
+use Rattle.sets.specs.Lists.{_∈_}
+use Rattle.sets.specs.Sets.{has}
 
 pub record Arena : Type 1 where
   pub Pos : Type 0
@@ -13,3 +17,12 @@ pub record Arena : Type 1 where
   pub moves : Pos → ℕ → List Move
   -- the position that a move leaves, none where a rule breaks
   pub after : Pos → Move → Option Pos
+
+-- one round with A away: a person who is not in A makes a move from p that leaves q
+pub record Round (G : Arena) (A : ℕ) (p q : G .Pos) : Type 0 where
+  pub person : ℕ
+  pub listed : person < G .people
+  pub present : has A person ≡ false
+  pub move : G .Move
+  pub offered : move ∈ G .moves p person
+  pub leaves : _≡_ {A = Option (G .Pos)} (G .after p move) (some q)

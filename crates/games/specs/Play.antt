@@ -4,9 +4,9 @@ use mathlib.Core.Option.{Option, none, some}
 use mathlib.Core.List.{List, [], _∷_}
 use Prim.Native.Nat.{ℕ, zero, suc}
 use lib.ListN.{length}
-use Rattle.games.specs.Arena.{Arena}
+use Rattle.games.specs.Arena.{Arena, Round}
 use Rattle.games.specs.Walks.{advice, away}
-use Rattle.games.specs.Games.{Absent, Round}
+use Rattle.games.specs.Games.{Absent}
 
 module _ (G : Arena) where
   -- ---- The desk follows the advice, under a list of absence sets, one a round
@@ -24,7 +24,7 @@ module _ (G : Arena) where
   onward go none = none
   onward go (some q) = go q
 
-  -- the position that is come to, as many rounds on as there are sets; none where the advice is "none" on the way
+  -- the position that is come to, as many rounds on as there are sets, one for each step that is left; none where the advice is "none" on the way
   unfoldable pub followed : ℕ → List ℕ → G .Pos → Option (G .Pos)
   followed t [] p = some p
   followed t (A ∷ As) p = onward (followed t As) (placed p (advice G t (suc (length As)) A p .got))

@@ -1,4 +1,5 @@
 -- The walks, each with its trials (scope: "The walk and its trials", "Playing the dynamic game"). No walk knows a limit.
+use mathlib.Core.Path.{_≡_}
 use mathlib.Core.Bool.{Bool, true, false, not}
 use mathlib.Core.Option.{Option, none, some}
 use mathlib.Core.List.{List, [], _∷_}
@@ -56,11 +57,12 @@ module _ {B : Type 0} where
   unfoldable pub ifSome : {C : Type 0} → C → Search B → Search C
   ifSome c w = record { got = having c (w .got); trials = w .trials }
 
-  -- go over people, and stop when w of them are found for whom something is got: those people
+  -- one person u more, tried in c trials, where w + 1 are still wanted
   unfoldable pub mark : Option B → ℕ → ℕ → (ℕ → Walk (List ℕ)) → ℕ → Walk (List ℕ)
   mark (some b) c u rest w = let r = rest w in record { got = u ∷ r .got; trials = c + r .trials }
   mark none c u rest w = let r = rest (suc w) in record { got = r .got; trials = c + r .trials }
 
+  -- go over people, and stop when w of them are found for whom something is got: those people
   unfoldable pub tally : (ℕ → Search B) → List ℕ → ℕ → Walk (List ℕ)
   tally f [] w = record { got = []; trials = 0 }
   tally f (u ∷ us) zero = record { got = []; trials = 0 }
@@ -70,7 +72,19 @@ module _ {B : Type 0} where
 unfoldable pub tooFew : ℕ → Walk (List ℕ) → Search ℕ
 tooFew t w = record { got = onlyIf (leb (length (w .got)) t) (setFrom (w .got)); trials = w .trials }
 
--- ---- The walks. Verdicts have one type: nothing got, the desk wins; a set got, it does not, and the set is shown.
+-- ---- Verdicts. All have one type: where no set is got the desk wins, and a set that is got is shown.
+
+abbrev pub Yes : Search ℕ → Type 0
+Yes w = w .got ≡ none
+
+abbrev pub No : Search ℕ → ℕ → Type 0
+No w A = w .got ≡ some A
+
+-- the desk's view: something exactly if the away side gets no set
+abbrev pub unbeaten : Search ℕ → Search (Unit {0})
+unbeaten w = ifNone (tt {0}) w
+
+-- ---- The walks
 
 module _ (G : Arena) where
   -- everybody but the members of A, ascending
@@ -99,18 +113,18 @@ module _ (G : Arena) where
   unfoldable pub decremental : ℕ → ℕ → ℕ → G .Pos → Search ℕ
   decremental t zero c p = record { got = none; trials = 0 }
   decremental t (suc k) c p =
-      seek (λ A. ifNone A (desk (λ q. ifNone (tt {0}) (decremental t k A q)) A p)) (sets (G .people) t c)
+      seek (λ A. ifNone A (desk (λ q. unbeaten (decremental t k A q)) A p)) (sets (G .people) t c)
 
   -- Dynamic: everybody is present. The people who leave a good position are found, up to t + 1 of them; where they are at most t they are shown.
   unfoldable pub dynamic : ℕ → ℕ → G .Pos → Search ℕ
   dynamic t zero p = record { got = none; trials = 0 }
-  dynamic t (suc k) p = tooFew t (tally (tries (λ q. ifNone (tt {0}) (dynamic t k q)) p) (upto (G .people)) (suc t))
+  dynamic t (suc k) p = tooFew t (tally (tries (λ q. unbeaten (dynamic t k q)) p) (upto (G .people)) (suc t))
 
   -- Advice: the lowest present person, with the move, whose placing leaves a good position. A is away in this round only.
   unfoldable pub advice : ℕ → ℕ → ℕ → G .Pos → Search (ℕ × G .Move)
   advice t zero A p = record { got = none; trials = 0 }
   advice t (suc k) A p =
-      seek (λ u. seek (λ m. ifSome (u, m) (try (λ q. ifNone (tt {0}) (dynamic t k q)) (G .after p m))) (G .moves p u)) (present A)
+      seek (λ u. seek (λ m. ifSome (u, m) (try (λ q. unbeaten (dynamic t k q)) (G .after p m))) (G .moves p u)) (present A)
 
   -- Away: all people whose placing leaves a good position, where they are at most t.
   unfoldable pub away : ℕ → ℕ → G .Pos → Search ℕ

@@ -25,19 +25,14 @@ stored s = record { bits = s }
 abbrev pub noPeople : People
 noPeople = stored 0
 
--- the set at place i of a shelf of stored sets, nobody past its end
-unfoldable pub shelved : List ℕ → ℕ → ℕ
-shelved shelf i = getD shelf i 0
+-- the set at place i of words that store one set each, nobody past its end
+unfoldable pub setAt : List ℕ → ℕ → ℕ
+setAt words i = getD words i 0
 
 -- what `next` answers
 unfoldable pub nextNumber : Next → Option ℕ
 nextNumber (next.Set s) = some (number s)
 nextNumber next.Nothing = none
-
--- the lowest member of a small set, or d where there is none
-abbrev pub lowestOr : ℕ → Option ℕ → ℕ
-lowestOr d none = d
-lowestOr d (some v) = v
 
 -- what `lowest` answers
 abbrev pub lowestNumber : Lowest → Option ℕ

@@ -11,11 +11,11 @@ ghost use Prim.Native.Nat.{min, _+_, _^_};
 ghost use lib.Dec.{leb, ltb, eqb};
 ghost use Rattle.sets.specs.Lists.{pick, onlyIf};
 ghost use Rattle.sets.specs.Sets.{has, setOf, size, within, meets, lowest, with, without, common, joined, difference, everybody, sizeBefore, after, nextSet};
-ghost use Rattle.sets.specs.Stored.{width, number, stored, noPeople, shelved, nextNumber, lowestNumber};
-pub use small::first;
+ghost use Rattle.sets.specs.Stored.{width, number, stored, noPeople, setAt, nextNumber, lowestNumber};
 pub use small::holds;
-pub use small::less;
+pub use small::lowest_in;
 pub use small::share;
+pub use small::without;
 
 // A set of people.
 pub struct People {
@@ -70,12 +70,12 @@ impl People {
         self.bits
     }
 
-    // The set at place i of a shelf of stored sets; nobody past its end.
-    pub fn at(shelf: &[u32], i: usize) -> People
-        ensures { λ r. ⌜ number r ≡ shelved (now (shelf .entry)) i ⌝ }
+    // The set at place i of words that store one set each; nobody past its end.
+    pub fn at(words: &[u32], i: usize) -> People
+        ensures { λ r. ⌜ number r ≡ setAt (now (words .entry)) i ⌝ }
     {
-        if i < shelf.len() {
-            People { bits: shelf[i] }
+        if i < words.len() {
+            People { bits: words[i] }
         } else {
             People { bits: 0 }
         }

@@ -1,17 +1,13 @@
 // Small sets, of roles, steps and rules: plain numbers of at most 32 bits, with bit i for role, step or rule i.
 ghost use mathlib.Core.Path.{_≡_};
 ghost use Rattle.sets.specs.Sets.{has, meets, lowest, without};
-ghost use Rattle.sets.specs.Stored.{lowestOr};
+ghost use Rattle.sets.specs.Lists.{valueOr};
 
 // Is i a member?
 pub fn holds(set: u16, i: u8) -> bool
     ensures { λ r. ⌜ r ≡ has set i ⌝ }
 {
-    if i < 16 {
-        (set >> i) % 2 == 1
-    } else {
-        false
-    }
+    if i < 16 { (set >> i) % 2 == 1 } else { false }
 }
 
 // Have two sets a member in common?
@@ -22,8 +18,8 @@ pub fn share(a: u16, b: u16) -> bool
 }
 
 // The lowest member, 32 where there is none.
-pub fn first(set: u32) -> u8
-    ensures { λ r. ⌜ r ≡ lowestOr 32 (lowest 32 set) ⌝ }
+pub fn lowest_in(set: u32) -> u8
+    ensures { λ r. ⌜ r ≡ valueOr 32 (lowest 32 set) ⌝ }
 {
     if set == 0 {
         32
@@ -33,12 +29,8 @@ pub fn first(set: u32) -> u8
 }
 
 // The set without i.
-pub fn less(set: u32, i: u8) -> u32
+pub fn without(set: u32, i: u8) -> u32
     ensures { λ r. ⌜ r ≡ without 32 set i ⌝ }
 {
-    if i < 32 {
-        set & !(1 << i)
-    } else {
-        set
-    }
+    if i < 32 { set & !(1 << i) } else { set }
 }

@@ -24,6 +24,9 @@ everybody-if-requires-2 c κs = search needs
 loop-holds : tie.Need-loop-holds Inv-loop μ-loop
 loop-holds c = (omega arith, gathered-start _ _ (c .before .everybody-if .result) (c .everybody-if2 .result) (c .before .everybody-if .ensures) (c .everybody-if2 .ensures))
 
+cast-loop : tie.Need-cast-loop Inv-loop μ-loop
+cast-loop c = search needs
+
 cast-here : tie.Need-cast-here Inv-loop μ-loop
 cast-here c = search needs
 
@@ -75,6 +78,7 @@ over-group-spec =
     everybody-if-requires
     everybody-if-requires-2
     loop-holds
+    cast-loop
     cast-here
     mul-here
     array-copy-out-here

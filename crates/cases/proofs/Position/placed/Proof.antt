@@ -7,6 +7,9 @@ use borrow.Author.Needs.{needs}
 use Rattle.cases.proofs.Position.placed.Statement.{statement}
 use Rattle.cases.proofs.Position.placed.Tie as tie
 
+cast-if1 : tie.Need-cast-if1
+cast-if1 c = search needs
+
 returns : tie.Need-returns
 returns c = rw (le-ltb _ mostSteps (c .if1 .taken))
 
@@ -23,4 +26,4 @@ returns-2 : tie.Need-returns-2
 returns-2 c = rw (lt-ltb _ mostSteps (c .if1 .left))
 
 pub placed-spec : {M : Type 1} → statement M
-placed-spec = tie.close (tie.spec returns cast-v element-set-from-v add-next returns-2)
+placed-spec = tie.close (tie.spec cast-if1 returns cast-v element-set-from-v add-next returns-2)

@@ -1,4 +1,4 @@
--- Two arenas that offer the same moves and leave the same positions, wherever play can come to, have the same walks.
+-- Walks that coincide: two arenas that offer the same moves and leave the same positions, wherever play can come to, have the same walks.
 use mathlib.Core.Path.{_≡_, refl, sym, ap, ap₂, _∙_}
 use mathlib.Core.Logic.{_⊎_, inl, inr}
 use mathlib.Core.Option.{Option, none, some}
@@ -86,7 +86,7 @@ module _ {Pos Move : Type 0} (n : ℕ) (moves moves′ : Pos → ℕ → List Mo
     dynamic-agree t zero p i = refl
     dynamic-agree t (suc k) p i =
         ap (tooFew t) (tally-cong (tries G (λ q. ifNone tt (dynamic G t k q)) p) (tries H (λ q. ifNone tt (dynamic H t k q)) p) (upto n) (suc t)
-          (λ u m. tries-agree _ _ (λ q j. ap (ifNone tt) (dynamic-agree t k q j)) p i u (upto-in n u m)))
+        (λ u m. tries-agree _ _ (λ q j. ap (ifNone tt) (dynamic-agree t k q j)) p i u (upto-in n u m)))
 
     pub away-agree : (t k : ℕ) (p : Pos) → Inv p → away G t k p ≡ away H t k p
     unfolding away
