@@ -1,0 +1,2 @@
+-- The laws of tables and runs of entries.
+pub mod Parts

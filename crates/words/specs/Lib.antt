@@ -1,0 +1,3 @@
+-- Little-endian numbers of bytes, and runs of entries.
+pub mod Word
+pub mod Part
