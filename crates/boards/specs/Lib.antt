@@ -1,0 +1,2 @@
+-- What stands on a board, and what a search reads off it.
+pub mod Board
