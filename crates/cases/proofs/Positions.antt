@@ -16,7 +16,7 @@ use Rattle.sets.proofs.Lists.{upto-in, upto-snoc}
 use Rattle.cases.specs.declared.Person.{Person}
 use Rattle.cases.specs.declared.Position.{Position}
 use Rattle.cases.specs.Case.{mostSteps}
-use Rattle.cases.specs.Positions.{zeroPerson, startPosition, persons, placedNext}
+use Rattle.cases.specs.Positions.{zeroPerson, startPosition, persons, placedNext, nextPersons}
 
 -- ---- lists made of the first n numbers
 
@@ -83,3 +83,26 @@ persons-placed p v room h =
   where
     next : Position
     next = record { who = set (p .who) (p .len) v; len = p .len + 1 }
+
+-- what `placed` gives: the position itself where there is no room, else the longer one
+pub placed-full : (p : Position) (v : Person) → mostSteps ≤ p .len → (p ≡ placedNext p v) × (persons p ≡ nextPersons (persons p) (v .0))
+placed-full p v h = (
+  sym (ap (λ (b : Bool). pick b next p) (le-ltb (p .len) mostSteps h)),
+  sym (ap (λ (b : Bool). pick b (persons p ++ (v .0 ∷ [])) (persons p)) (le-ltb (length (persons p)) mostSteps (omega (arith, persons-length p)))),
+)
+  where
+    next : Position
+    next = record { who = set (p .who) (p .len) v; len = p .len + 1 }
+
+pub placed-is : (p q : Position) (v : Person) → p .len < mostSteps → p .len < length (p .who)
+    → q ≡ record { who = set (p .who) (p .len) v; len = p .len + 1 } → (q ≡ placedNext p v) × (persons q ≡ nextPersons (persons p) (v .0))
+placed-is p q v h l e =
+    let is : q ≡ placedNext p v = e ∙ sym (ap (λ (b : Bool). pick b (record { who = set (p .who) (p .len) v; len = p .len + 1 }) p) (lt-ltb (p .len) mostSteps h)) in (
+      is,
+      ap persons is ∙ persons-placed p v h l
+          ∙ sym (ap (λ (b : Bool). pick b (persons p ++ (v .0 ∷ [])) (persons p)) (lt-ltb (length (persons p)) mostSteps (omega (arith, persons-length p)))),
+    )
+
+-- where there is room, the persons of the position with one more
+pub next-room : (l : List ℕ) (v : ℕ) → length l < mostSteps → nextPersons l v ≡ l ++ (v ∷ [])
+next-room l v h = ap (λ (b : Bool). pick b (l ++ (v ∷ [])) l) (lt-ltb (length l) mostSteps h)

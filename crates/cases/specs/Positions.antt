@@ -1,8 +1,8 @@
 -- A position in memory: the persons of the first `len` steps.
-use mathlib.Core.List.{List, map}
+use mathlib.Core.List.{List, [], _∷_, _++_, map}
 use Prim.Native.Nat.{ℕ, _+_}
 use lib.Dec.{ltb}
-use lib.ListN.{getD, set, replicate}
+use lib.ListN.{length, getD, set, replicate}
 use Rattle.sets.specs.Lists.{pick, upto}
 use Rattle.cases.specs.declared.Person.{Person}
 use Rattle.cases.specs.declared.Position.{Position}
@@ -21,3 +21,7 @@ persons p = map (λ i. getD (p .who) i zeroPerson .0) (upto (p .len))
 -- the position with one person more, where there is room
 abbrev pub placedNext : Position → Person → Position
 placedNext p v = pick (ltb (p .len) mostSteps) (record { who = set (p .who) (p .len) v; len = p .len + 1 }) p
+
+-- the persons of that position
+abbrev pub nextPersons : List ℕ → ℕ → List ℕ
+nextPersons l v = pick (ltb (length l) mostSteps) (l ++ (v ∷ [])) l

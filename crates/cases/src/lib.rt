@@ -8,7 +8,7 @@ ghost use Rattle.sets.specs.Stored.{width, number};
 ghost use Rattle.cases.specs.Case.{emptyCase, mostSteps};
 ghost use Rattle.cases.specs.Rules.{keepersOf};
 ghost use Rattle.cases.specs.Pairs.{Gathered};
-ghost use Rattle.cases.specs.Positions.{startPosition, persons, placedNext};
+ghost use Rattle.cases.specs.Positions.{startPosition, persons, placedNext, nextPersons};
 
 // A person's number. Persons and steps both count from 0, and neither stands where the other is due.
 pub struct Person(pub u8);
@@ -83,7 +83,7 @@ impl Position {
 
     // One person more, where there is room.
     pub fn placed(self, v: Person) -> Position
-        ensures { λ r. ⌜ r ≡ placedNext self v ⌝ }
+        ensures { λ r. ⌜ (r ≡ placedNext self v) × (persons r ≡ nextPersons (persons self) (v .0)) ⌝ }
     {
         let at = self.len;
         if Case::STEPS <= (at as usize) {
