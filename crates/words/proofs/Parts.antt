@@ -1,39 +1,47 @@
 -- Tables and runs of entries: how long they are, what stands at a place, and the loops that make them.
 use Prim.Native.Nat.{ℕ, zero, suc, _+_, _-_, _*_, _≤_, _<_}
-use mathlib.Core.Path.{_≡_, refl, ap, _∙_, sym}
-use mathlib.Core.List.{List, [], _∷_, _++_, append-assoc}
+use mathlib.Core.Path.{_≡_, refl, ap, ap₂, _∙_, sym}
+use mathlib.Core.List.{List, [], _∷_, _++_, append-assoc, map, map-append}
 use mathlib.Core.Logic.{⊎-elim}
 use native.Mathlib.Nat.{mul-suc, mul-zero, mul-le-mul-left, eq-or-lt-of-le}
 use native.Mathlib.Numerals.{add-one}
 use native.Mathlib.Omega.{arith}
 use lib.ListN.{length, getD, take, drop, set, length-append, length-set, List·getD-append}
 use lib.Seq.{drop-at, drop-drop, take-suc-set, take-all, getD-append-add, getD-at, sets, sets-eq, length-sets, take-at, take-add, length-take-le}
+use Rattle.sets.specs.Lists.{upto, from}
+use Rattle.sets.proofs.Lists.{upto-snoc}
 use Rattle.words.specs.Part.{table, run, splice, Filled, Written}
 
+upto-zero : upto 0 ≡ []
+unfolding upto from
+upto-zero = refl
+
 module _ {A : Type 0} where
+  -- one entry more
+  table-suc : (f : ℕ → A) (n : ℕ) → table f (suc n) ≡ table f n ++ (f n ∷ [])
+  table-suc f n = ap (map f) (upto-snoc n) ∙ map-append f (upto n) (n ∷ [])
+
   pub length-table : (f : ℕ → A) (n : ℕ) → length (table f n) ≡ n
-  unfolding table
-  length-table f zero = refl
-  length-table f (suc n) = omega (arith, length-append (table f n) (f n ∷ []), length-table f n)
+  length-table f zero = rw upto-zero refl
+  length-table f (suc n) = ap length (table-suc f n) ∙ omega (arith, length-append (table f n) (f n ∷ []), length-table f n)
 
   pub getD-table : (f : ℕ → A) (n i : ℕ) (d : A) → i < n → getD (table f n) i d ≡ f i
-  unfolding table
   getD-table f zero i d h = absurd (omega arith)
   getD-table f (suc n) i d h =
-      ⊎-elim (λ q. rw q (getD-at (table f n) (f n) [] d n (length-table f n)))
+      ap (λ l. getD l i d) (table-suc f n)
+      ∙ ⊎-elim (λ q. rw q (getD-at (table f n) (f n) [] d n (length-table f n)))
       (λ l. List·getD-append (table f n) (f n ∷ []) d i (omega (arith, length-table f n)) ∙ getD-table f n i d l)
       (eq-or-lt-of-le {n = i} {m = n} (omega arith))
 
   -- tables of the same entries are the same
   pub table-cong : (f g : ℕ → A) (n : ℕ) → ((i : ℕ) → i < n → f i ≡ g i) → table f n ≡ table g n
-  unfolding table
-  table-cong f g zero h = refl
-  table-cong f g (suc n) h = rw (h n (omega arith), table-cong f g n (λ i b. h i (omega arith))) refl
+  table-cong f g zero h = rw upto-zero refl
+  table-cong f g (suc n) h =
+      table-suc f n ∙ ap₂ (λ l x. l ++ (x ∷ [])) (table-cong f g n (λ i b. h i (omega arith))) (h n (omega arith)) ∙ sym (table-suc g n)
 
   -- a loop that fills an array: one store more
   table-more : (f : ℕ → A) (i : ℕ) (a : List A) → i < length a → take i a ≡ table f i → take (i + 1) (set a i (f i)) ≡ table f (i + 1)
-  unfolding table
-  table-more f i a h e = rw (add-one, take-suc-set) (rw e refl)
+  table-more f i a h e = rw (add-one, take-suc-set, table-suc) (rw e refl)
 
   -- a loop that writes entries: the stores of one entry more
   run-more : (e : ℕ → List A) (i k : ℕ) (l : List A) → k + length (e i) ≤ length l → take k l ≡ run e i → take (k + length (e i)) (sets l k (e i)) ≡ run e (i + 1)
@@ -78,8 +86,7 @@ module _ {A : Type 0} where
 -- A loop that fills an array: its start, one entry more, its end.
 module _ {A : Type 0} (f : ℕ → A) (n : ℕ) where
   pub fill-start : (l : List A) → length l ≡ n → Filled f n 0 l
-  unfolding table
-  fill-start l h = record { upto = omega arith; long = h; front = refl }
+  fill-start l h = record { upto = omega arith; long = h; front = rw upto-zero refl }
 
   pub fill-step : {i : ℕ} {l : List A} {v : A} → Filled f n i l → i < n → v ≡ f i → Filled f n (i + 1) (set l i v)
   fill-step {i} {l} {v} h b e =

@@ -1,13 +1,13 @@
 -- Runs of entries, and how far a loop that fills an array or writes a part has come.
 use Prim.Native.Nat.{ℕ, zero, suc, _+_, _-_, _*_, _≤_}
 use mathlib.Core.Path.{_≡_}
-use mathlib.Core.List.{List, [], _∷_, _++_}
+use mathlib.Core.List.{List, [], _++_, map}
 use lib.ListN.{length, take, drop}
+use Rattle.sets.specs.Lists.{upto}
 
 -- the entries f 0, .., f (n - 1)
-unfoldable pub table : {A : Type 0} → (ℕ → A) → ℕ → List A
-table f zero = []
-table f (suc n) = table f n ++ (f n ∷ [])
+abbrev pub table : {A : Type 0} → (ℕ → A) → ℕ → List A
+table f n = map f (upto n)
 
 -- the bytes of entry 0, .., of entry n - 1, one after the other
 unfoldable pub run : {A : Type 0} → (ℕ → List A) → ℕ → List A
