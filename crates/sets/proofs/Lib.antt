@@ -5,6 +5,7 @@ pub mod Bits
 pub mod Counting
 pub mod Records
 pub mod Members
+pub mod NotBelow
 pub mod Listed
 pub mod Masks
 pub mod CountingUp

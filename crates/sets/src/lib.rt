@@ -10,11 +10,13 @@ ghost use mathlib.Core.Option.{some};
 ghost use Prim.Native.Nat.{min, _+_, _^_};
 ghost use lib.Dec.{leb, ltb, eqb};
 ghost use Rattle.sets.specs.Lists.{pick, onlyIf};
-ghost use Rattle.sets.specs.Sets.{has, setOf, size, within, meets, lowest, with, without, common, joined, difference, everybody, sizeBefore, after, nextSet};
+ghost use Rattle.sets.specs.Sets.{has, setOf, size, within, meets, past, lowest, with, without, common, joined, difference, everybody, sizeBefore, after, nextSet};
 ghost use Rattle.sets.specs.Stored.{width, number, stored, noPeople, setAt, nextNumber, lowestNumber};
 pub use small::holds;
 pub use small::lowest_in;
+pub use small::past;
 pub use small::share;
+pub use small::size;
 pub use small::without;
 
 // A set of people.
@@ -163,6 +165,18 @@ impl People {
         ensures { λ r. ⌜ r ≡ meets width (number self) (number other) ⌝ }
     {
         self.bits & other.bits != 0
+    }
+
+    // Is some member not below n?
+    pub fn past(self, n: u16) -> bool
+        ensures { λ r. ⌜ r ≡ past width (number self) n ⌝ }
+    {
+        let bits = self.bits;
+        if n < (People::WIDTH as u16) {
+            1 << n <= bits
+        } else {
+            false
+        }
     }
 
     // The member with the lowest number.

@@ -1,6 +1,6 @@
 // Small sets, of roles, steps and rules: plain numbers of at most 32 bits, with bit i for role, step or rule i.
 ghost use mathlib.Core.Path.{_≡_};
-ghost use Rattle.sets.specs.Sets.{has, meets, lowest, without};
+ghost use Rattle.sets.specs.Sets.{has, size, meets, past, lowest, without};
 ghost use Rattle.sets.specs.Lists.{valueOr};
 
 // Is i a member?
@@ -15,6 +15,20 @@ pub fn share(a: u16, b: u16) -> bool
     ensures { λ r. ⌜ r ≡ meets 16 a b ⌝ }
 {
     a & b != 0
+}
+
+// How many members are there?
+pub fn size(set: u16) -> u32
+    ensures { λ r. ⌜ r ≡ size 16 set ⌝ }
+{
+    u32::count_ones(set as u32)
+}
+
+// Is some member not below n?
+pub fn past(set: u16, n: u16) -> bool
+    ensures { λ r. ⌜ r ≡ past 16 set n ⌝ }
+{
+    if n < 16 { 1 << n <= set } else { false }
 }
 
 // The lowest member, 32 where there is none.
