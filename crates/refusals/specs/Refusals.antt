@@ -22,6 +22,11 @@ judgedBy [] = Good
 judgedBy (none ∷ checks) = judgedBy checks
 judgedBy (some r ∷ checks) = Refused r
 
+-- an earlier judgement, or where it is good a later one
+abbrev pub orElse : Judged → Judged → Judged
+orElse Good later = later
+orElse (Refused r) later = Refused r
+
 -- a check of the whole, placed at 0
 abbrev pub onlyCheck : ℕ → Bool → Check
 onlyCheck n met = onlyIf met (refusal n 0)

@@ -1,0 +1,3 @@
+-- The laws of refusals.
+pub mod Order
+pub mod Search
