@@ -27,7 +27,7 @@ use Rattle.cases.proofs.Rules.{needed-cong}
 use Rattle.cases.proofs.Rounds.{entry-at, entry-past}
 
 -- what is read of two lists that agree below the count
-entry-same : {A : Type 0} (z : A) (n : ℕ) (l m : List A) → ((i : ℕ) → i < n → getD l i z ≡ getD m i z) → (i : ℕ) → entry z n l i ≡ entry z n m i
+pub entry-same : {A : Type 0} (z : A) (n : ℕ) (l m : List A) → ((i : ℕ) → i < n → getD l i z ≡ getD m i z) → (i : ℕ) → entry z n l i ≡ entry z n m i
 entry-same z n l m h i = go (decLt i n)
   where
     go : Dec (i < n) → entry z n l i ≡ entry z n m i
@@ -38,11 +38,11 @@ module _ (c d : Case) (s : SameBelow c d) where
   abbrev same : c .counts ≡ d .counts
   same = s .counts
 
-  held-same : (u : ℕ) → rolesHeld c u ≡ rolesHeld d u
+  pub held-same : (u : ℕ) → rolesHeld c u ≡ rolesHeld d u
   unfolding rolesHeld
   held-same u = entry-same 0 (people c) (c .people) (d .people) (s .people) u ∙ ap (λ (n : Counts). entry 0 (n .people) (d .people) u) same
 
-  for-same : (x : ℕ) → rolesFor c x ≡ rolesFor d x
+  pub for-same : (x : ℕ) → rolesFor c x ≡ rolesFor d x
   unfolding rolesFor
   for-same x =
       ap (λ e. e .roles) (entry-same zeroStep (steps c) (c .steps) (d .steps) (s .steps) x ∙ ap (λ (n : Counts). entry zeroStep (n .steps) (d .steps) x) same)
