@@ -59,7 +59,7 @@ module _ (c d : Case) (s : SameBelow c d) where
       map-cong (λ i. getD (c .rules) i zeroRule) (λ i. getD (d .rules) i zeroRule) (upto (c .counts .rules)) (λ i m. s .rules i (upto-in (c .counts .rules) i m))
       ∙ ap (λ (n : Counts). map (λ i. getD (d .rules) i zeroRule) (upto (n .rules))) same
 
-  may-same : (u x : ℕ) → may c u x ≡ may d u x
+  pub may-same : (u x : ℕ) → may c u x ≡ may d u x
   unfolding may
   may-same u x = ap₂ (meets 16) (held-same u) (for-same x)
 
@@ -79,7 +79,7 @@ module _ (c d : Case) (s : SameBelow c d) where
       all-cong (λ r. not (filled r f) || kept c r who) (λ r. not (filled r f) || kept d r who) (rules c) (λ r m. ap (λ (b : Bool). not (filled r f) || b) (kept-same r who))
       ∙ ap (all (λ r. not (filled r f) || kept d r who)) rules-same
 
-  holds-same : (p : List ℕ) → holds c p ≡ holds d p
+  pub holds-same : (p : List ℕ) → holds c p ≡ holds d p
   unfolding holds
   holds-same p = hold-same (λ i. ltb i (length p)) (λ i. getD p i 0)
 
