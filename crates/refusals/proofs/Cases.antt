@@ -1,21 +1,24 @@
 -- A case is judged exactly by the scope's table; and what stands above its counts does not matter.
 use mathlib.Core.Path.{_≡_, refl, ap, _∙_}
-use mathlib.Core.Bool.{not, _||_}
+use mathlib.Core.Bool.{Bool, true, false, not, _||_}
 use mathlib.Core.List.{List, [], _∷_}
 use Prim.Native.Nat.{ℕ}
-use lib.Dec.{eqb}
+use borrow.Author.Tests.{ltb-false}
+use lib.Dec.{ltb, eqb}
 use Rattle.sets.specs.Sets.{past}
 use Rattle.sets.specs.Stored.{width, number, noPeople}
 use Rattle.cases.specs.declared.Counts.{Counts}
 use Rattle.cases.specs.declared.Case.{Case}
-use Rattle.cases.specs.Case.{mostSteps, mostRoles, zeroStep, zeroRule, entry, SameBelow}
+use Rattle.cases.specs.Case.{mostPeople, mostSteps, mostRoles, mostTables, mostRules, zeroStep, zeroRule, entry, SameBelow}
 use Rattle.cases.proofs.Counted.{entry-same, held-same, for-same}
+use Rattle.refusals.specs.declared.Judged.the-variants.{Good, Refused}
 use Rattle.refusals.specs.Refusals.{Check, judgedBy, onlyCheck, entryCheck}
 use Rattle.refusals.specs.Offsets.{rowsIn, personPlace, stepPlace, rowPlace, rulePlace}
-use Rattle.refusals.specs.CaseChecks.{tooMany, badRule, stepEntry, rowEntry, ruleEntry, badPerson, badRoles, badOrder, badRow, countsCheck, entryChecks, caseChecks, judgedCase}
+use Rattle.refusals.specs.CaseChecks.{tooMany, Limited, badRule, stepEntry, rowEntry, ruleEntry, badPerson, badRoles, badOrder, badRow, countsCheck, entryChecks, caseChecks, judgedCase}
 use Rattle.refusals.specs.Table.{Exactly, countsRow, entryRows, caseTable}
+use Rattle.refusals.proofs.Order.{good-refused}
 use Rattle.refusals.proofs.Table.{Tells, Told, exactly, only-tells, entry-tells}
-use Rattle.refusals.proofs.Conditions.{past-names, too-many, bad-step, bad-rule}
+use Rattle.refusals.proofs.Conditions.{nor-false, past-names, too-many, bad-step, bad-rule}
 
 module _ (c : Case) where
   pub counts-tell : Tells (countsCheck c) (countsRow c)
@@ -89,3 +92,37 @@ module _ (c d : Case) (s : SameBelow c d) where
   pub same-refusal : judgedCase c ≡ judgedCase d
   unfolding judgedCase
   same-refusal = ap judgedBy same-checks
+
+-- ---- A good case
+
+pub limited : (n : Counts) → tooMany n ≡ false → Limited n
+unfolding tooMany
+limited n e =
+    let a = nor-false (ltb mostPeople (n .people)) _ e in
+    let b = nor-false (ltb mostSteps (n .steps)) _ (a .1) in
+    let c = nor-false (ltb mostRoles (n .roles)) _ (b .1) in
+    let d = nor-false (ltb mostTables (n .tables)) (ltb mostRules (n .rules)) (c .1) in
+    record {
+      people = ltb-false _ _ (a .0);
+      steps = ltb-false _ _ (b .0);
+      roles = ltb-false _ _ (c .0);
+      tables = ltb-false _ _ (d .0);
+      rules = ltb-false _ _ (d .1);
+    }
+
+-- where no count is above its limit, the entries decide
+pub entries-decide : (c : Case) → tooMany (c .counts) ≡ false → judgedCase c ≡ judgedBy (entryChecks c)
+unfolding judgedCase caseChecks countsCheck judgedBy
+entries-decide c e = ap (λ (b : Bool). judgedBy (onlyCheck 4 b ∷ entryChecks c)) e
+
+-- a good case is within its limits
+pub good-fits : (c : Case) → judgedCase c ≡ Good → tooMany (c .counts) ≡ false
+unfolding judgedCase caseChecks countsCheck judgedBy
+good-fits c e = go (tooMany (c .counts)) refl
+  where
+    go : (b : Bool) → tooMany (c .counts) ≡ b → tooMany (c .counts) ≡ false
+    go false q = q
+    go true q = absurd (good-refused e (ap (λ (b : Bool). judgedBy (onlyCheck 4 b ∷ entryChecks c)) q))
+
+pub good-limited : (c : Case) → judgedCase c ≡ Good → Limited (c .counts)
+good-limited c e = limited (c .counts) (good-fits c e)

@@ -33,6 +33,10 @@ either-is a b {A} {B} f g = (to a f, from a f)
     from false f (inl k) = absurd (true≢false (sym (f .1 k)))
     from false f (inr k) = g .1 k
 
+pub nor-false : (a b : Bool) → a || b ≡ false → (a ≡ false) × (b ≡ false)
+nor-false true b e = absurd (true≢false e)
+nor-false false b e = (refl, e)
+
 pub below-is : (a b : ℕ) → (ltb a b ≡ true) ↔ (a < b)
 below-is a b = (ltb-true a b, lt-ltb a b)
 

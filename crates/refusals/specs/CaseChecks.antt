@@ -1,7 +1,7 @@
 -- What a case is judged by: 4 and 7 to 11. A good case meets none of them.
 use mathlib.Core.Bool.{Bool, not, _&&_, _||_}
 use mathlib.Core.List.{List, [], _∷_}
-use Prim.Native.Nat.{ℕ, _+_}
+use Prim.Native.Nat.{ℕ, _+_, _≤_}
 use lib.Dec.{ltb, leb, eqb}
 use Rattle.sets.specs.Lists.{pick}
 use Rattle.sets.specs.Sets.{size, past}
@@ -21,6 +21,14 @@ unfoldable pub tooMany : Counts → Bool
 tooMany n =
     ltb mostPeople (n .people)
     || (ltb mostSteps (n .steps) || (ltb mostRoles (n .roles) || (ltb mostTables (n .tables) || ltb mostRules (n .rules))))
+
+-- no count is above its limit
+pub record Limited (n : Counts) : Type 0 where
+  pub people : n .people ≤ mostPeople
+  pub steps : n .steps ≤ mostSteps
+  pub roles : n .roles ≤ mostRoles
+  pub tables : n .tables ≤ mostTables
+  pub rules : n .rules ≤ mostRules
 
 -- Form 1 has exactly one step in X; forms 2 and 3 have at least one.
 unfoldable pub rightSize : ℕ → ℕ → Bool
