@@ -6,7 +6,7 @@
 --   528 to 559   rules: form, relation, step s and set X of rule i, one byte each from the lowest up, at 528 + i
 --   560 to 567   allowed: the set of people who may do step s, at 560 + s
 -- Past its end every number reads 0, and every set is of nobody.
-use mathlib.Core.Bool.{Bool, _&&_}
+use mathlib.Core.Bool.{Bool}
 use mathlib.Core.List.{List, [], _∷_, _++_}
 use Prim.Native.Nat.{ℕ, _+_, _*_, _/_, _%_}
 use lib.Dec.{eqb}
@@ -15,6 +15,7 @@ use Rattle.sets.specs.Lists.{pick, onlyIf, consIf, all}
 use Rattle.sets.specs.Sets.{has, setOf, members}
 use Rattle.sets.specs.Stored.{width, setAt}
 use Rattle.games.specs.Arena.{Arena}
+use Rattle.cases.specs.declared.Rule.{Rule}
 use Rattle.cases.specs.Case.{mostRules}
 use Rattle.cases.specs.Rules.{needed, stepsIn}
 
@@ -38,19 +39,10 @@ rulePlace i = 528 + i
 abbrev pub allowedPlace : ℕ → ℕ
 allowedPlace s = 560 + s
 
--- ---- A rule as one number
+-- ---- A rule as one number: one byte each, from the lowest up
 
-unfoldable pub formOf : ℕ → ℕ
-formOf word = word % 256
-
-unfoldable pub relationOf : ℕ → ℕ
-relationOf word = word / 256 % 256
-
-unfoldable pub stepOf : ℕ → ℕ
-stepOf word = word / 65536 % 256
-
-unfoldable pub groupOf : ℕ → ℕ
-groupOf word = word / 16777216 % 256
+abbrev pub unpacked : ℕ → Rule
+unpacked word = record { form = word % 256; relation = word / 256 % 256; step = record { 0 = word / 65536 % 256 }; group = word / 16777216 % 256 }
 
 -- ---- Reading a board
 
@@ -63,9 +55,9 @@ module _ (b : List ℕ) where
   unfoldable pub dueOn : ℕ → ℕ
   dueOn s = getD b (duePlace s) 0
 
-  -- rule i, as one number
-  unfoldable pub ruleOn : ℕ → ℕ
-  ruleOn i = getD b (rulePlace i) 0
+  -- rule i
+  unfoldable pub ruleOn : ℕ → Rule
+  ruleOn i = unpacked (getD b (rulePlace i) 0)
 
   module _ (p : List ℕ) where
     -- the people with whom, placed next, the pair (person of s, person of x) is in relation k
@@ -75,9 +67,9 @@ module _ (b : List ℕ) where
         (pick (eqb x (length p)) (setAt b (loopsPlace k)) (setAt b (columnPlace k (getD p x 0))))
         (pick (eqb x (length p)) (setAt b (rowPlace k (getD p s 0))) (setOf (λ u. has (setAt b (rowPlace k (getD p s 0))) (getD p x 0)) width))
 
-    -- with person u, placed next, a rule is kept
-    unfoldable pub keptOn : ℕ → ℕ → Bool
-    keptOn word u = needed (formOf word) (λ x. has (pairOn (relationOf word) (stepOf word) x) u) (stepsIn (groupOf word))
+    -- with person u placed next, a rule is kept
+    unfoldable pub keptOn : Rule → ℕ → Bool
+    keptOn r u = needed (r .form) (λ x. has (pairOn (r .relation) (r .step .0) x) u) (stepsIn (r .group))
 
     -- the people with whom, placed next, every rule is kept that the next step completes
     unfoldable pub fitsOn : ℕ

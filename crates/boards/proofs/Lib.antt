@@ -1,0 +1,3 @@
+-- The laws behind the functions of `boards`.
+pub mod Over
+pub mod Pairs
