@@ -1,7 +1,7 @@
 -- What the operations on one word of n bits make of the sets that it stores, for every n.
 use mathlib.Core.Path.{_≡_, refl, sym, ap, ap₂, _∙_}
 use mathlib.Core.Bool.{Bool, true, false, not, _&&_, _||_, true≢false}
-use Prim.Native.Nat.{ℕ, _-_, _*_, _%_, _^_, _≤_, _<_, min}
+use Prim.Native.Nat.{ℕ, zero, suc, _+_, _-_, _*_, _%_, _^_, _≤_, _<_, min}
 use native.Mathlib.Nat.{le-refl, one-mul, min-le-right, min-eq-left, min-eq-right, lt-of-lt-of-le}
 use native.Mathlib.Decide.{decLt}
 use native.Mathlib.Omega.{arith}
@@ -9,10 +9,10 @@ use borrow.Author.Tests.{lt-ltb, le-ltb, eq-eqb, ne-eqb}
 use lib.Bits.{bitAnd, bitOr, and-lt, or-lt}
 use lib.Dec.{ltb, eqb}
 use lib.Pow.{pow-pos, pow-mono, pow-lt, ones-lt, ones-sub-lt, shl-exact}
-use Rattle.sets.specs.Sets.{has, setOf, size, within, meets, with, without, common, joined, difference, everybody, sizeBefore, after}
+use Rattle.sets.specs.Sets.{has, bit, setOf, size, within, meets, with, without, common, joined, difference, everybody, sizeBefore, after}
 use Rattle.sets.proofs.Lists.{and-true, true-and, and-true-end}
 use Rattle.sets.proofs.Bits.{has-beyond, has-empty, has-power, has-and, has-or}
-use Rattle.sets.proofs.Counting.{count-ext, has-setOf, setOf-ext, set-ext, is-setOf, has-not, has-ones}
+use Rattle.sets.proofs.Counting.{count-ext, has-setOf, setOf-has, setOf-ext, set-ext, is-setOf, has-not, has-ones}
 use Rattle.sets.proofs.Listed.{within-mem, mem-within, meets-mem, mem-meets}
 
 -- ---- one person, and the first m
@@ -86,6 +86,25 @@ module _ (n a b : ℕ) (p : a < 2 ^ n) (q : b < 2 ^ n) where
 
 pub with-is : (n s v : ℕ) → joined n s (setOf (λ w. eqb w v) n) ≡ with n s v
 with-is n s v = setOf-ext (λ w. has s w || has (setOf (λ u. eqb u v) n) w) (λ w. has s w || eqb w v) n (λ w l. ap (λ (b : Bool). has s w || b) (has-setOf (λ u. eqb u v) n w l))
+
+-- two sets with nobody in common, put together
+setOf-apart : (f g : ℕ → Bool) (n : ℕ) → ((v : ℕ) → v < n → f v ≡ true → g v ≡ false) → setOf (λ w. f w || g w) n ≡ setOf f n + setOf g n
+unfolding setOf
+setOf-apart f g zero h = refl
+setOf-apart f g (suc n) h = go (f n) (g n) (h n (omega arith)) (setOf-apart f g n (λ v l. h v (omega arith)))
+  where
+    go : (a b : Bool) → (a ≡ true → b ≡ false) → setOf (λ w. f w || g w) n ≡ setOf f n + setOf g n
+        → bit (a || b) * 2 ^ n + setOf (λ w. f w || g w) n ≡ bit a * 2 ^ n + setOf f n + (bit b * 2 ^ n + setOf g n)
+    go true true k e = absurd (true≢false (k refl))
+    go true false k e = omega arith
+    go false true k e = omega arith
+    go false false k e = omega arith
+
+-- somebody who was not a member
+pub with-new : (n s v : ℕ) → s < 2 ^ n → v < n → has s v ≡ false → with n s v ≡ s + 2 ^ v
+with-new n s v h l e =
+    setOf-apart (has s) (λ w. eqb w v) n (λ w b m. ne-eqb w v (λ k. true≢false (sym m ∙ ap (has s) k ∙ e)))
+    ∙ ap₂ _+_ (setOf-has n s h) (sym (alone-is n v l))
 
 pub without-is : (n s v : ℕ) → difference n s (setOf (λ w. eqb w v) n) ≡ without n s v
 without-is n s v = setOf-ext (λ w. has s w && not (has (setOf (λ u. eqb u v) n) w)) (λ w. has s w && not (eqb w v)) n (λ w l. ap (λ (b : Bool). has s w && not b) (has-setOf (λ u. eqb u v) n w l))

@@ -1,0 +1,173 @@
+-- Where each search's loop starts, what a search answers with no step left, and a position with one person more.
+use mathlib.Core.Path.{_≡_, refl, sym, ap, ap₂, _∙_}
+use mathlib.Core.Option.{Option, none, some}
+use mathlib.Core.List.{List, [], _∷_, _++_}
+use Prim.Native.Nat.{ℕ, zero, suc, _+_, _-_, _≤_, _<_, _^_, min}
+use native.Mathlib.Nat.{min-eq-left}
+use native.Mathlib.Omega.{arith}
+use lib.ListN.{length, length-append}
+use Rattle.sets.specs.Sets.{size, members, sets, nextSet}
+use Rattle.sets.specs.Stored.{width, number, noPeople, nextNumber}
+use Rattle.sets.specs.declared.Next.{Next}
+use Rattle.sets.specs.declared.Next.the-variants as next
+use Rattle.sets.specs.declared.People.{People}
+use Rattle.sets.proofs.Records.{number-none}
+use Rattle.games.specs.Arena.{Arena}
+use Rattle.games.specs.Walks.{Walk, Search, lacking, ifNone, orElse, seek, plan, static, decremental, dynamic, advice}
+use Rattle.games.specs.Limit.{stopped, whole, cut}
+use Rattle.games.proofs.Limits.{cut-past}
+use Rattle.cases.specs.Case.{mostSteps}
+use Rattle.cases.specs.Positions.{persons, nextPersons}
+use Rattle.cases.specs.declared.Person.{Person}
+use Rattle.cases.specs.declared.Position.{Position}
+use Rattle.cases.proofs.Positions.{persons-length, next-room}
+use Rattle.boards.specs.Board.{boardChain}
+use Rattle.walks.specs.Outcomes.{beatsOn, adviceOn}
+use Rattle.walks.specs.Trying.{InLine}
+use Rattle.walks.proofs.Cuts.{plus-zero, finished, over, ends}
+use Rattle.walks.proofs.Scans.{Hunt, scan, Going, going-start}
+use Rattle.walks.proofs.Hunts.{first}
+use Rattle.walks.proofs.Lines.{naming, beating, showing, fit-inside, plan-line, beats-line, advice-line, dynamic-line}
+use Rattle.walks.proofs.Sweeps.{Sweep, sweep-start}
+
+-- ---- a position with one person more, where there is room
+
+pub room : (len left : ℕ) → len + left ≤ 8 → (left ≡ 0 → ⊥) → len < mostSteps
+room len left h f = omega arith
+
+pub above-zero : {left : ℕ} → (left ≡ 0 → ⊥) → 0 < left
+above-zero f = omega arith
+
+pub some-left : {left : ℕ} → 0 < left → left ≡ 0 → ⊥
+some-left h e = omega arith
+
+pub placed-persons : (p q : Position) (v : Person) → persons q ≡ nextPersons (persons p) (v .0) → p .len < mostSteps → persons q ≡ persons p ++ (v .0 ∷ [])
+placed-persons p q v e h = e ∙ next-room (persons p) (v .0) (omega (arith, persons-length p))
+
+pub placed-fits : (p q : Position) (v : Person) (left : ℕ) → persons q ≡ nextPersons (persons p) (v .0) → p .len + left ≤ 8 → (left ≡ 0 → ⊥) → q .len + (left - 1) ≤ 8
+placed-fits p q v left e h f =
+    let l = ap length (placed-persons p q v e (room (p .len) left h f)) ∙ length-append (persons p) (v .0 ∷ []) in
+    omega (arith, persons-length p, persons-length q, l)
+
+-- nobody, as a number
+pub nobody-shown : {s : People} → s ≡ noPeople → number s ≡ 0
+nobody-shown e = ap number e ∙ number-none
+
+-- ---- what is hunted for at a position
+
+module _ (b : List ℕ) (n : ℕ) where
+  abbrev pub planHunt : ℕ → ℕ → List ℕ → Hunt (Option (List ℕ)) (Option (List ℕ)) (Unit {0})
+  planHunt A k p = first (λ u. plan (boardChain b n) A k (p ++ (u ∷ [])))
+
+  abbrev pub adviceHunt : ℕ → ℕ → List ℕ → Hunt (Option ℕ) (Option ℕ) (Unit {0})
+  adviceHunt t k p = naming (λ u. dynamic (boardChain b n) t k (p ++ (u ∷ [])))
+
+  abbrev pub dynamicHunt : ℕ → ℕ → List ℕ → Hunt (Option ℕ) (Option ℕ) (ℕ × ℕ)
+  dynamicHunt t k p = showing t (λ u. dynamic (boardChain b n) t k (p ++ (u ∷ [])))
+
+  abbrev pub deskHunt : ℕ → ℕ → ℕ → List ℕ → Hunt (Option ℕ) (Option ℕ) (Unit {0})
+  deskHunt t A k p = beating A (λ u. decremental (boardChain b n) t k A (p ++ (u ∷ [])))
+
+-- ---- with no step left
+
+seek-nothing : (f : ℕ → Search ℕ) (xs : List ℕ) → ((x : ℕ) → f x ≡ record { got = none; trials = 0 }) → seek f xs ≡ record { got = none; trials = 0 }
+unfolding seek orElse
+seek-nothing f [] e = refl
+seek-nothing f (x ∷ xs) e = ap (λ (w : Search ℕ). orElse (w .got) (w .trials) (λ _. seek f xs)) (e x) ∙ plus-zero (seek f xs) ∙ seek-nothing f xs e
+
+module _ (G : Arena) (k : ℕ) (p : G .Pos) (z : k ≡ 0) where
+  pub plan-full : (A : ℕ) → plan G A k p ≡ record { got = some p; trials = 0 }
+  unfolding plan
+  plan-full A = ap (λ (j : ℕ). plan G A j p) z
+
+  pub dynamic-full : (t : ℕ) → dynamic G t k p ≡ record { got = none; trials = 0 }
+  unfolding dynamic
+  dynamic-full t = ap (λ (j : ℕ). dynamic G t j p) z
+
+  pub decremental-full : (t c : ℕ) → decremental G t k c p ≡ record { got = none; trials = 0 }
+  unfolding decremental
+  decremental-full t c = ap (λ (j : ℕ). decremental G t j c p) z
+
+  -- each set finds a plan at once, in no trial
+  pub static-full : (t : ℕ) → static G t k p ≡ record { got = none; trials = 0 }
+  unfolding static plan ifNone
+  static-full t =
+      ap (λ (j : ℕ). static G t j p) z
+      ∙ seek-nothing (λ A. ifNone A (plan G A 0 p)) (sets (G .people) t 0) (λ A. refl)
+
+pub advice-full : (b : List ℕ) (n t k A : ℕ) (p : List ℕ) → k ≡ 0 → adviceOn b n t k A p ≡ record { got = none; trials = 0 }
+unfolding advice
+advice-full b n t k A p z = ap (λ (j : ℕ). adviceOn b n t j A p) z
+
+-- ---- where a loop starts: k steps are left, at least one
+
+module _ (b : List ℕ) (n k : ℕ) (p : List ℕ) (limit T F : ℕ) (some-left : k ≡ 0 → ⊥) (h : n ≤ width) where
+  one-less : (j : ℕ) → (j ≡ 0 → ⊥) → j ≡ suc (j - 1)
+  one-less j f = omega arith
+
+  pub plan-going : (A : ℕ) → InLine b n A p T F → Going (planHunt b n A (k - 1) p) (plan (boardChain b n) A k p) limit T F 0 tt
+  plan-going A l =
+      going-start _ _ limit T F tt (fit-inside b n A p T F l h)
+      (ap (λ (j : ℕ). plan (boardChain b n) A j p) (one-less k some-left) ∙ plan-line b n A p T F l h (k - 1))
+
+  pub dynamic-going : (t : ℕ) → InLine b n 0 p T F → Going (dynamicHunt b n t (k - 1) p) (dynamic (boardChain b n) t k p) limit T F 0 (0, 0)
+  dynamic-going t l =
+      going-start _ _ limit T F (0, 0) (fit-inside b n 0 p T F l h)
+      (ap (λ (j : ℕ). dynamic (boardChain b n) t j p) (one-less k some-left) ∙ dynamic-line b n p T F l h t (k - 1))
+
+-- the loop of advice no longer knows who is absent: it goes by the line that it starts with
+pub advice-total : (b : List ℕ) (n k : ℕ) (p : List ℕ) (T F : ℕ) → (k ≡ 0 → ⊥) → n ≤ width → (t A : ℕ) → InLine b n A p T F
+    → scan (adviceHunt b n t (k - 1) p) F (members width T) tt ≡ adviceOn b n t k A p
+advice-total b n k p T F f h t A l =
+    let e : suc (k - 1) ≡ k = omega arith in
+    sym (advice-line b n A p T F l h t (k - 1)) ∙ ap (λ (j : ℕ). adviceOn b n t j A p) e
+
+pub line-going : {A R S : Type 0} (h : Hunt A R S) (b : List ℕ) (n Z limit T F : ℕ) (p : List ℕ) (s : S) → n ≤ width → InLine b n Z p T F
+    → Going h (scan h F (members width T) s) limit T F 0 s
+line-going h b n Z limit T F p s k l = going-start h _ limit T F s (fit-inside b n Z p T F l k) refl
+
+pub desk-going : (b : List ℕ) (n k : ℕ) (p : List ℕ) (limit T F : ℕ) → n ≤ width → (t A : ℕ) → InLine b n A p T F
+    → Going (deskHunt b n t A k p) (beatsOn b n t k p A) limit T F 0 tt
+desk-going b n k p limit T F h t A l = going-start _ _ limit T F tt (fit-inside b n A p T F l h) (beats-line b n A p T F l h t k)
+
+-- a turn of the away side, and the static walk, go over sets
+pub away-going : (b : List ℕ) (n t k c limit : ℕ) (p : List ℕ) → (k ≡ 0 → ⊥) → c < 2 ^ n → size n c ≤ t
+    → Sweep (beatsOn b n t (k - 1) p) (decremental (boardChain b n) t k c p) n t c limit c 0
+unfolding decremental beatsOn
+away-going b n t k c limit p f l h =
+    let e : k ≡ suc (k - 1) = omega arith in
+    sweep-start _ _ n t c limit l h (ap (λ (j : ℕ). decremental (boardChain b n) t j c p) e)
+
+pub static-going : (b : List ℕ) (n t k limit : ℕ) (p : List ℕ) → 0 < 2 ^ n → size n 0 ≤ t
+    → Sweep (λ A. ifNone A (plan (boardChain b n) A k p)) (static (boardChain b n) t k p) n t 0 limit 0 0
+unfolding static
+static-going b n t k limit p l h = sweep-start _ _ n t 0 limit l h refl
+
+-- ---- the next set, as the code answers it
+
+pub next-some : {r : Next} {x : People} (n t c s : ℕ) → n ≤ width → r ≡ next.Set x → nextNumber r ≡ nextSet (min n width) t c s → some (number x) ≡ nextSet n t c s
+unfolding nextNumber
+next-some n t c s h e k = sym (ap nextNumber e) ∙ k ∙ ap (λ (m : ℕ). nextSet m t c s) (min-eq-left h)
+
+pub next-none : {r : Next} (n t c s : ℕ) → n ≤ width → r ≡ next.Nothing → nextNumber r ≡ nextSet (min n width) t c s → none ≡ nextSet n t c s
+unfolding nextNumber
+next-none n t c s h e k = sym (ap nextNumber e) ∙ k ∙ ap (λ (m : ℕ). nextSet m t c s) (min-eq-left h)
+
+-- ---- A is got exactly if the plan walk gets nothing
+
+module _ {B : Type 0} (l A : ℕ) (w : Search B) where
+  pub lacks-limit : stopped l ≡ cut l w → stopped l ≡ cut l (ifNone A w)
+  unfolding ifNone
+  lacks-limit e = sym (cut-past l (ifNone A w) (over l w e))
+
+  pub lacks-none : (c : ℕ) → whole (record { got = none; trials = c }) ≡ cut l w → whole (record { got = some A; trials = c }) ≡ cut l (ifNone A w)
+  unfolding ifNone
+  lacks-none c e =
+      let d = finished l w none c e in
+      ends l (ifNone A w) (some A) c (ap₂ (λ (o : Option B) (k : ℕ). record { got = lacking A o; trials = k }) (d .got) (d .trials)) (d .within)
+
+  pub lacks-some : (b : B) (c : ℕ) → whole (record { got = some b; trials = c }) ≡ cut l w → whole (record { got = none; trials = c }) ≡ cut l (ifNone A w)
+  unfolding ifNone
+  lacks-some b c e =
+      let d = finished l w (some b) c e in
+      ends l (ifNone A w) none c (ap₂ (λ (o : Option B) (k : ℕ). record { got = lacking A o; trials = k }) (d .got) (d .trials)) (d .within)

@@ -1,0 +1,64 @@
+-- What the searches' answers say, as the answers of `cut`; and the walks of `games` on a board that they are compared with.
+use mathlib.Core.Option.{Option, none, some}
+use mathlib.Core.List.{List}
+use Prim.Native.Nat.{ℕ}
+use Rattle.sets.specs.Stored.{number}
+use Rattle.games.specs.Walks.{Search, ifNone, unbeaten, desk, decremental, advice}
+use Rattle.games.specs.Limit.{Answer, stopped, whole}
+use Rattle.cases.specs.Chain.{personOf}
+use Rattle.cases.specs.Positions.{persons}
+use Rattle.cases.specs.declared.Position.{Position}
+use Rattle.boards.specs.Board.{boardChain}
+use Rattle.walks.specs.declared.PlanEnd.{PlanEnd}
+use Rattle.walks.specs.declared.PlanEnd.the-variants as planEnd
+use Rattle.walks.specs.declared.Planned.{Planned}
+use Rattle.walks.specs.declared.Verdict.{Verdict}
+use Rattle.walks.specs.declared.Verdict.the-variants as verdict
+use Rattle.walks.specs.declared.Advised.{Advised}
+use Rattle.walks.specs.declared.Advised.the-variants as advised
+use Rattle.walks.specs.declared.Turn.{Turn}
+use Rattle.walks.specs.declared.Turn.the-variants as turn
+
+-- ---- What an answer says, under a limit l
+
+-- something got, or nothing, in c trials
+abbrev pub found : {B : Type 0} → B → ℕ → Answer (Option B)
+found b c = whole (record { got = some b; trials = c })
+
+abbrev pub nothing : {B : Type 0} → ℕ → Answer (Option B)
+nothing c = whole (record { got = none; trials = c })
+
+abbrev pub planEnded : ℕ → List ℕ → PlanEnd → Answer (Option (List ℕ))
+planEnded l q planEnd.Limit = stopped l
+planEnded l q (planEnd.No c) = nothing c
+planEnded l q (planEnd.Yes c) = found q c
+
+abbrev pub planOutcome : ℕ → Planned → Answer (Option (List ℕ))
+planOutcome l r = planEnded l (persons (r .plan)) (r .end)
+
+abbrev pub verdictOutcome : ℕ → Verdict → Answer (Option ℕ)
+verdictOutcome l verdict.Limit = stopped l
+verdictOutcome l (verdict.Yes c) = nothing c
+verdictOutcome l (verdict.No s c) = found (number s) c
+
+abbrev pub advisedOutcome : ℕ → Advised → Answer (Option ℕ)
+advisedOutcome l advised.Limit = stopped l
+advisedOutcome l (advised.Nobody c) = nothing c
+advisedOutcome l (advised.Person v c) = found (v .0) c
+
+-- a turn of the desk with A away: A is got exactly if it beats the desk
+abbrev pub turnOutcome : ℕ → ℕ → Turn → Answer (Option ℕ)
+turnOutcome l A turn.Limit = stopped l
+turnOutcome l A (turn.Beaten c) = found A c
+turnOutcome l A (turn.Holds c) = nothing c
+
+-- ---- Walks on a board b for n people
+
+module _ (b : List ℕ) (n t : ℕ) where
+  -- a turn of the desk in the decremental game with A away and k steps left after it: A where it beats the desk
+  unfoldable pub beatsOn : ℕ → List ℕ → ℕ → Search ℕ
+  beatsOn k p A = ifNone A (desk (boardChain b n) (λ q. unbeaten (decremental (boardChain b n) t k A q)) A p)
+
+  -- advice names a person; the move is the same person
+  abbrev pub adviceOn : ℕ → ℕ → List ℕ → Search ℕ
+  adviceOn k A p = let w = advice (boardChain b n) t k A p in record { got = personOf (w .got); trials = w .trials }

@@ -1,0 +1,424 @@
+// The searches: plan, static, decremental, dynamic and advice, over a board that is lent down every call. Each stops at its limit, and each is
+// proved equal to the walk of `games` on the board's arena, trial for trial. They know no case, no file and no refusal.
+//
+// A position's people are lined up once: those who cost a trial, and among them those with whom every rule holds. Each turn of a loop then goes
+// straight to the next person worth a try, and counts those passed over, each a trial, without looking at them.
+use boards::allowed;
+use boards::fits;
+use cases::Person;
+use cases::Position;
+use sets::Lowest;
+use sets::Next;
+use sets::People;
+ghost use mathlib.Core.Path.{_≡_};
+ghost use mathlib.Core.Bool.{Bool};
+ghost use Prim.Native.Nat.{ℕ, _+_, _-_, _^_, _≤_, _<_};
+ghost use Rattle.sets.specs.Sets.{after, common, difference, everybody, size};
+ghost use Rattle.sets.specs.Stored.{width, number};
+ghost use Rattle.games.specs.Walks.{plan, static, decremental, dynamic, ifNone};
+ghost use Rattle.games.specs.Limit.{cut};
+ghost use Rattle.cases.specs.Positions.{persons};
+ghost use Rattle.boards.specs.Board.{allowedOn, fitsOn, boardChain};
+ghost use Rattle.walks.specs.Outcomes.{planOutcome, verdictOutcome, advisedOutcome, turnOutcome, beatsOn, adviceOn};
+ghost use Rattle.walks.specs.Trying.{tryOutcome, tried, InLine};
+
+// How a search for a plan ended.
+pub enum PlanEnd {
+    Limit,
+    No(u32),
+    Yes(u32),
+}
+
+// Where the end is yes, `plan` is the plan.
+pub struct Planned {
+    pub end: PlanEnd,
+    pub plan: Position,
+}
+
+// A verdict with its trials; a no shows a set.
+pub enum Verdict {
+    Limit,
+    Yes(u32),
+    No(People, u32),
+}
+
+// Advice with its trials.
+pub enum Advised {
+    Limit,
+    Nobody(u32),
+    Person(Person, u32),
+}
+
+// A turn of the desk in the decremental game, with its trials: beaten, or not.
+enum Turn {
+    Limit,
+    Beaten(u32),
+    Holds(u32),
+}
+
+// The people still to be tried at a position: each of `tried` costs a trial, and with those of `fit`, who are among them, every rule holds.
+struct Line {
+    tried: People,
+    fit: People,
+}
+
+// The next person worth a try, with the trials used when they are tried; or nobody, with the trials used when all are.
+enum Try {
+    Limit,
+    Nobody(u32),
+    Person(Person, u32),
+}
+
+// The line at a position, with some people away.
+fn line_up(board: &[u32; 568], people: u8, absent: People, p: Position) -> Line
+    ensures { λ r. ⌜ InLine (now (board .entry)) people (number absent) (persons p) (number (r .tried)) (number (r .fit)) ⌝ }
+{
+    let tried = allowed(board, p.len)
+        .difference(absent)
+        .common(People::everybody(people));
+    let fit = tried.common(fits(board, p));
+    Line {
+        tried: tried,
+        fit: fit,
+    }
+}
+
+// The next person worth a try, where `used` trials were used before.
+fn next_try(line: Line, used: u32, limit: u32) -> Try
+    requires { ⌜ used ≤ limit ⌝ }
+    ensures { λ r. ⌜ tryOutcome r ≡ tried (number (line .tried)) (number (line .fit)) used limit ⌝ }
+{
+    match line.fit.lowest() {
+        Lowest::Nobody => {
+            let trials = line.tried.size();
+            if limit - used < trials {
+                return Try::Limit;
+            }
+            Try::Nobody(used + trials)
+        }
+        Lowest::Person(v) => {
+            let passed = line.tried.before(v);
+            if limit - used <= passed {
+                return Try::Limit;
+            }
+            Try::Person(Person(v), used + passed + 1)
+        }
+    }
+}
+
+// The line behind a person.
+fn behind(line: Line, v: Person) -> Line
+    ensures { λ r. ⌜ (number (r .tried) ≡ after width (number (line .tried)) (v .0)) × (number (r .fit) ≡ after width (number (line .fit)) (v .0)) ⌝ }
+{
+    Line {
+        tried: line.tried.after(v.0),
+        fit: line.fit.after(v.0),
+    }
+}
+
+// The first plan from a position, with some people away throughout.
+pub fn plan_walk(
+    board: &[u32; 568],
+    people: u8,
+    absent: People,
+    p: Position,
+    left: u8,
+    limit: u32,
+) -> Planned
+    requires { ⌜ (p .len + left ≤ 8) × (people ≤ 32) ⌝ }
+    ensures { λ r. ⌜ planOutcome limit r ≡ cut limit (plan (boardChain (now (board .entry)) people) (number absent) left (persons p)) ⌝ }
+{
+    if left == 0 {
+        return Planned {
+            end: PlanEnd::Yes(0),
+            plan: p,
+        };
+    }
+    let mut line = line_up(board, people, absent, p);
+    let mut used: u32 = 0;
+    loop {
+        match next_try(line, used, limit) {
+            Try::Limit => {
+                return Planned {
+                    end: PlanEnd::Limit,
+                    plan: p,
+                };
+            }
+            Try::Nobody(trials) => {
+                return Planned {
+                    end: PlanEnd::No(trials),
+                    plan: p,
+                };
+            }
+            Try::Person(v, trials) => {
+                let sub = plan_walk(board, people, absent, p.placed(v), left - 1, limit - trials);
+                let end = sub.end;
+                match end {
+                    PlanEnd::Limit => {
+                        return Planned {
+                            end: PlanEnd::Limit,
+                            plan: p,
+                        };
+                    }
+                    PlanEnd::Yes(more) => {
+                        let found = sub.plan;
+                        return Planned {
+                            end: PlanEnd::Yes(trials + more),
+                            plan: found,
+                        };
+                    }
+                    PlanEnd::No(more) => {
+                        used = trials + more;
+                        line = behind(line, v);
+                    }
+                }
+            }
+        }
+    }
+}
+
+// Are more than t people good to place next? If not, who is.
+pub fn dynamic_walk(
+    board: &[u32; 568],
+    people: u8,
+    t: u32,
+    p: Position,
+    left: u8,
+    limit: u32,
+) -> Verdict
+    requires { ⌜ (p .len + left ≤ 8) × (people ≤ 32) ⌝ }
+    ensures { λ r. ⌜ verdictOutcome limit r ≡ cut limit (dynamic (boardChain (now (board .entry)) people) t left (persons p)) ⌝ }
+{
+    if left == 0 {
+        return Verdict::Yes(0);
+    }
+    let mut line = line_up(board, people, People::none(), p);
+    let mut shown = People::none();
+    let mut found: u32 = 0;
+    let mut used: u32 = 0;
+    loop {
+        match next_try(line, used, limit) {
+            Try::Limit => {
+                return Verdict::Limit;
+            }
+            Try::Nobody(trials) => {
+                return Verdict::No(shown, trials);
+            }
+            Try::Person(v, trials) => {
+                match dynamic_walk(board, people, t, p.placed(v), left - 1, limit - trials) {
+                    Verdict::Limit => {
+                        return Verdict::Limit;
+                    }
+                    Verdict::No(_, more) => {
+                        used = trials + more;
+                        line = behind(line, v);
+                    }
+                    Verdict::Yes(more) => {
+                        if found == t {
+                            return Verdict::Yes(trials + more);
+                        }
+                        found += 1;
+                        shown = shown.with(v.0);
+                        used = trials + more;
+                        line = behind(line, v);
+                    }
+                }
+            }
+        }
+    }
+}
+
+// The lowest present person whose placing leaves a good position.
+pub fn advice_walk(
+    board: &[u32; 568],
+    people: u8,
+    t: u32,
+    absent: People,
+    p: Position,
+    left: u8,
+    limit: u32,
+) -> Advised
+    requires { ⌜ (p .len + left ≤ 8) × (people ≤ 32) ⌝ }
+    ensures { λ r. ⌜ advisedOutcome limit r ≡ cut limit (adviceOn (now (board .entry)) people t left (number absent) (persons p)) ⌝ }
+{
+    if left == 0 {
+        return Advised::Nobody(0);
+    }
+    let mut line = line_up(board, people, absent, p);
+    let mut used: u32 = 0;
+    loop {
+        match next_try(line, used, limit) {
+            Try::Limit => {
+                return Advised::Limit;
+            }
+            Try::Nobody(trials) => {
+                return Advised::Nobody(trials);
+            }
+            Try::Person(v, trials) => {
+                match dynamic_walk(board, people, t, p.placed(v), left - 1, limit - trials) {
+                    Verdict::Limit => {
+                        return Advised::Limit;
+                    }
+                    Verdict::Yes(more) => {
+                        return Advised::Person(v, trials + more);
+                    }
+                    Verdict::No(_, more) => {
+                        used = trials + more;
+                        line = behind(line, v);
+                    }
+                }
+            }
+        }
+    }
+}
+
+// A turn of the desk with some people away: it stops at the first person who leaves a position from which the away side cannot win.
+fn desk_turn(
+    board: &[u32; 568],
+    people: u8,
+    t: u32,
+    away: People,
+    p: Position,
+    left: u8,
+    limit: u32,
+) -> Turn
+    requires { ⌜ (0 < left) × (p .len + left ≤ 8) × (people ≤ 32) × (number away < 2 ^ people) × (size people (number away) ≤ t) ⌝ }
+    ensures { λ r. ⌜ turnOutcome limit (number away) r ≡ cut limit (beatsOn (now (board .entry)) people t (left - 1) (persons p) (number away)) ⌝ }
+{
+    let mut line = line_up(board, people, away, p);
+    let mut used: u32 = 0;
+    loop {
+        match next_try(line, used, limit) {
+            Try::Limit => {
+                return Turn::Limit;
+            }
+            Try::Nobody(trials) => {
+                return Turn::Beaten(trials);
+            }
+            Try::Person(v, trials) => {
+                match away_turn(
+                    board,
+                    people,
+                    t,
+                    away,
+                    p.placed(v),
+                    left - 1,
+                    limit - trials,
+                ) {
+                    Verdict::Limit => {
+                        return Turn::Limit;
+                    }
+                    Verdict::Yes(more) => {
+                        return Turn::Holds(trials + more);
+                    }
+                    Verdict::No(_, more) => {
+                        used = trials + more;
+                        line = behind(line, v);
+                    }
+                }
+            }
+        }
+    }
+}
+
+// A turn of the away side: it goes over the sets of at most t people that contain those away, and stops at the first that beats the desk.
+pub fn away_turn(
+    board: &[u32; 568],
+    people: u8,
+    t: u32,
+    away: People,
+    p: Position,
+    left: u8,
+    limit: u32,
+) -> Verdict
+    requires { ⌜ (p .len + left ≤ 8) × (people ≤ 32) × (number away < 2 ^ people) × (size people (number away) ≤ t) ⌝ }
+    ensures { λ r. ⌜ verdictOutcome limit r ≡ cut limit (decremental (boardChain (now (board .entry)) people) t left (number away) (persons p)) ⌝ }
+{
+    if left == 0 {
+        return Verdict::Yes(0);
+    }
+    let mut set = away;
+    let mut used: u32 = 0;
+    loop {
+        match desk_turn(board, people, t, set, p, left, limit - used) {
+            Turn::Limit => {
+                return Verdict::Limit;
+            }
+            Turn::Beaten(trials) => {
+                return Verdict::No(set, used + trials);
+            }
+            Turn::Holds(trials) => {
+                used += trials;
+            }
+        }
+        match set.next(people, t, away) {
+            Next::Set(larger) => {
+                set = larger;
+            }
+            Next::Nothing => {
+                return Verdict::Yes(used);
+            }
+        }
+    }
+}
+
+// Is there a plan without some people? A turn of the static walk.
+fn without_plan(
+    board: &[u32; 568],
+    people: u8,
+    away: People,
+    p: Position,
+    left: u8,
+    limit: u32,
+) -> Turn
+    requires { ⌜ (p .len + left ≤ 8) × (people ≤ 32) ⌝ }
+    ensures { λ r. ⌜ turnOutcome limit (number away) r ≡ cut limit (ifNone (number away) (plan (boardChain (now (board .entry)) people) (number away) left (persons p))) ⌝ }
+{
+    let walked = plan_walk(board, people, away, p, left, limit);
+    let end = walked.end;
+    match end {
+        PlanEnd::Limit => Turn::Limit,
+        PlanEnd::No(trials) => Turn::Beaten(trials),
+        PlanEnd::Yes(trials) => Turn::Holds(trials),
+    }
+}
+
+// The sets of at most t people, a plan walk each; it stops at the first without a plan. With no step left there is nothing to walk.
+pub fn static_walk(
+    board: &[u32; 568],
+    people: u8,
+    t: u32,
+    p: Position,
+    left: u8,
+    limit: u32,
+) -> Verdict
+    requires { ⌜ (p .len + left ≤ 8) × (people ≤ 32) ⌝ }
+    ensures { λ r. ⌜ verdictOutcome limit r ≡ cut limit (static (boardChain (now (board .entry)) people) t left (persons p)) ⌝ }
+{
+    if left == 0 {
+        return Verdict::Yes(0);
+    }
+    let mut set = People::none();
+    let mut used: u32 = 0;
+    loop {
+        match without_plan(board, people, set, p, left, limit - used) {
+            Turn::Limit => {
+                return Verdict::Limit;
+            }
+            Turn::Beaten(trials) => {
+                return Verdict::No(set, used + trials);
+            }
+            Turn::Holds(trials) => {
+                used += trials;
+            }
+        }
+        match set.next(people, t, People::none()) {
+            Next::Set(larger) => {
+                set = larger;
+            }
+            Next::Nothing => {
+                return Verdict::Yes(used);
+            }
+        }
+    }
+}
