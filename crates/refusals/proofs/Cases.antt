@@ -12,7 +12,7 @@ use Rattle.cases.specs.declared.Case.{Case}
 use Rattle.cases.specs.Case.{mostPeople, mostSteps, mostRoles, mostTables, mostRules, zeroStep, zeroRule, entry, SameBelow}
 use Rattle.cases.proofs.Counted.{entry-same, held-same, for-same}
 use Rattle.refusals.specs.declared.Judged.the-variants.{Good, Refused}
-use Rattle.refusals.specs.Refusals.{Check, judgedBy, onlyCheck, entryCheck}
+use Rattle.refusals.specs.Refusals.{Check, refusal, judgedBy, onlyCheck, entryCheck}
 use Rattle.refusals.specs.Offsets.{rowsIn, personPlace, stepPlace, rowPlace, rulePlace}
 use Rattle.refusals.specs.CaseChecks.{tooMany, Limited, badRule, stepEntry, rowEntry, ruleEntry, badPerson, badRoles, badOrder, badRow, countsCheck, entryChecks, caseChecks, judgedCase}
 use Rattle.refusals.specs.Table.{Exactly, countsRow, entryRows, caseTable}
@@ -115,14 +115,18 @@ pub entries-decide : (c : Case) → tooMany (c .counts) ≡ false → judgedCase
 unfolding judgedCase caseChecks countsCheck judgedBy
 entries-decide c e = ap (λ (b : Bool). judgedBy (onlyCheck 4 b ∷ entryChecks c)) e
 
+-- where one is, that is the refusal
+pub counts-decide : (c : Case) → tooMany (c .counts) ≡ true → judgedCase c ≡ Refused (refusal 4 0)
+unfolding judgedCase caseChecks countsCheck judgedBy
+counts-decide c e = ap (λ (b : Bool). judgedBy (onlyCheck 4 b ∷ entryChecks c)) e
+
 -- a good case is within its limits
 pub good-fits : (c : Case) → judgedCase c ≡ Good → tooMany (c .counts) ≡ false
-unfolding judgedCase caseChecks countsCheck judgedBy
 good-fits c e = go (tooMany (c .counts)) refl
   where
     go : (b : Bool) → tooMany (c .counts) ≡ b → tooMany (c .counts) ≡ false
     go false q = q
-    go true q = absurd (good-refused e (ap (λ (b : Bool). judgedBy (onlyCheck 4 b ∷ entryChecks c)) q))
+    go true q = absurd (good-refused e (counts-decide c q))
 
 pub good-limited : (c : Case) → judgedCase c ≡ Good → Limited (c .counts)
 good-limited c e = limited (c .counts) (good-fits c e)

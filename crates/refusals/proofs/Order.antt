@@ -1,5 +1,5 @@
 -- The order of refusals: what lists of checks come to.
-use mathlib.Core.Path.{_≡_, refl, ap, _∙_}
+use mathlib.Core.Path.{_≡_, refl, sym, ap, ap₂, _∙_}
 use mathlib.Core.Logic.{inl, inr}
 use mathlib.Core.Option.{Option, none, some}
 use mathlib.Core.List.{List, [], _∷_, _++_}
@@ -21,6 +21,10 @@ unfolding judgedBy
 judged-append [] ys = refl
 judged-append (none ∷ xs) ys = judged-append xs ys
 judged-append (some r ∷ xs) ys = refl
+
+-- one check more
+pub judged-snoc : (xs : List Check) (x : Check) {j k : Judged} → j ≡ judgedBy xs → k ≡ judgedBy (x ∷ []) → orElse j k ≡ judgedBy (xs ++ (x ∷ []))
+judged-snoc xs x p q = ap₂ orElse p q ∙ sym (judged-append xs (x ∷ []))
 
 -- where the first list refuses, that is the refusal
 pub checks-before : (xs ys : List Check) (r : Refusal) → judgedBy xs ≡ Refused r → judgedBy (xs ++ ys) ≡ Refused r

@@ -1,0 +1,2 @@
+-- What the code's steps come to, over plain values.
+pub mod Entries
