@@ -17,6 +17,7 @@ pub use small::lowest_in;
 pub use small::past;
 pub use small::share;
 pub use small::size;
+pub use small::with;
 pub use small::without;
 
 // A set of people.

@@ -1,0 +1,6 @@
+-- The laws behind the functions of `laying`, and what a board means.
+pub mod Relations
+pub mod Collecting
+pub mod Completing
+pub mod Joined
+pub mod Places
