@@ -1,6 +1,6 @@
 // Bytes and little-endian numbers of a slice, got and put. It knows nothing of cases or files. Past the end of a slice every byte is 0.
 ghost use mathlib.Core.Path.{_≡_};
-ghost use mathlib.Core.Bool.{_&&_};
+ghost use mathlib.Core.Bool.{_&&_, _||_};
 ghost use Prim.Native.Nat.{_+_, _<_};
 ghost use lib.ListN.{length};
 ghost use lib.Seq.{sets};
@@ -78,9 +78,15 @@ pub fn put_long(s: &mut [u8], i: usize, v: u32)
     s[i + 3] = (v / 16777216) as u8;
 }
 
-// Both tests hold. As a function, so that a caller's proof goes by what it ensures.
+// Both tests hold; either test holds. As functions, so that a caller's proof goes by what they ensure.
 pub fn both(a: bool, b: bool) -> bool
     ensures { λ r. ⌜ r ≡ (a && b) ⌝ }
 {
     if a { b } else { false }
+}
+
+pub fn either(a: bool, b: bool) -> bool
+    ensures { λ r. ⌜ r ≡ (a || b) ⌝ }
+{
+    if a { true } else { b }
 }
