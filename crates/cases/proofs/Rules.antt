@@ -31,7 +31,7 @@ module _ (c : Case) (d e : ℕ → Bool) (v w : ℕ → ℕ) (less : Fewer d v e
       let k = and-true (d (r .step .0)) (all d (stepsIn (r .group))) h in
       true-and (e (r .step .0)) (all e (stepsIn (r .group))) (less (r .step .0) (k .0) .0) (mem-all e (stepsIn (r .group)) (λ x m. less x (all-mem d (stepsIn (r .group)) (k .1) x m) .0))
 
-  kept-fewer : (r : Rule) → filled r d ≡ true → kept c r w ≡ kept c r v
+  pub kept-fewer : (r : Rule) → filled r d ≡ true → kept c r w ≡ kept c r v
   unfolding filled kept
   kept-fewer r h =
       let k = and-true (d (r .step .0)) (all d (stepsIn (r .group))) h in

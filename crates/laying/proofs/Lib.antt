@@ -4,3 +4,5 @@ pub mod Collecting
 pub mod Completing
 pub mod Joined
 pub mod Places
+pub mod Means
+pub mod OnBoard

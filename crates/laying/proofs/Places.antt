@@ -3,7 +3,7 @@ use mathlib.Core.Path.{_≡_, refl, sym, ap, ap₂, _∙_}
 use mathlib.Core.List.{List, [], _++_, append-assoc}
 use Prim.Native.Nat.{ℕ, _+_, _*_, _/_, _%_, _≤_, _<_}
 use native.Mathlib.Omega.{arith}
-use lib.ListN.{length, getD, length-append, List·getD-append}
+use lib.ListN.{length, getD, length-append, List·getD-append, List·getD-eq-default}
 use lib.Seq.{paste, getD-append-add}
 use Rattle.sets.specs.Sets.{has, setOf}
 use Rattle.sets.specs.Stored.{width, setAt}
@@ -88,3 +88,65 @@ module _ (c : Case) where
       let columns′ : columns ≡ columnsPart = e₂ ∙ ap (λ (r : List ℕ). table (λ i. columnIn r (i / 32) (i % 32)) 256) e₁ ∙ columns-are in
       let loops′ : loops ≡ loopsPart = e₃ ∙ ap (λ (r : List ℕ). table (loopsIn r) 8) e₁ ∙ loops-are in
       begins-end _ b₆ s₆ (omega arith) ∙ rw (e₁, columns′, loops′, e₄, e₅, e₆) (simp append-assoc)
+
+  -- ---- what stands where
+
+  pub row-at : (k u : ℕ) → k < 8 → u < 32 → setAt (laidOut c) (rowPlace k u) ≡ rowOf c k u
+  unfolding laidOut setAt
+  row-at k u h l = List·getD-append rowsPart _ 0 (rowPlace k u) (omega (arith, length-table (λ i. rowOf c (i / 32) (i % 32)) 256)) ∙ in-block (rowOf c) k u h l
+
+  -- past the rows, the columns, the loops, the rules due, and the rules
+  beyond : {A : Type 0} (d : A) (l rest : List A) (n j : ℕ) → length l ≡ n → getD (l ++ rest) (n + j) d ≡ getD rest j d
+  beyond d l rest n j e = ap (λ (m : ℕ). getD (l ++ rest) (m + j) d) (sym e) ∙ getD-append-add l rest j d
+
+  past-rows : (j : ℕ) → getD (laidOut c) (256 + j) 0 ≡ getD (columnsPart ++ (loopsPart ++ (duePart ++ (rulesPart ++ allowedPart)))) j 0
+  unfolding laidOut
+  past-rows j = beyond 0 rowsPart _ 256 j (length-table _ 256)
+
+  past-columns : (j : ℕ) → getD (laidOut c) (512 + j) 0 ≡ getD (loopsPart ++ (duePart ++ (rulesPart ++ allowedPart))) j 0
+  past-columns j =
+      let e : 512 + j ≡ 256 + (256 + j) = omega arith in
+      ap (λ (i : ℕ). getD (laidOut c) i 0) e ∙ past-rows (256 + j) ∙ beyond 0 columnsPart _ 256 j (length-table _ 256)
+
+  past-loops : (j : ℕ) → getD (laidOut c) (520 + j) 0 ≡ getD (duePart ++ (rulesPart ++ allowedPart)) j 0
+  past-loops j =
+      let e : 520 + j ≡ 512 + (8 + j) = omega arith in
+      ap (λ (i : ℕ). getD (laidOut c) i 0) e ∙ past-columns (8 + j) ∙ beyond 0 loopsPart _ 8 j (length-table _ 8)
+
+  past-due : (j : ℕ) → getD (laidOut c) (528 + j) 0 ≡ getD (rulesPart ++ allowedPart) j 0
+  past-due j =
+      let e : 528 + j ≡ 520 + (8 + j) = omega arith in
+      ap (λ (i : ℕ). getD (laidOut c) i 0) e ∙ past-loops (8 + j) ∙ beyond 0 duePart _ 8 j (length-table _ 8)
+
+  past-rules : (j : ℕ) → getD (laidOut c) (560 + j) 0 ≡ getD allowedPart j 0
+  past-rules j =
+      let e : 560 + j ≡ 528 + (32 + j) = omega arith in
+      ap (λ (i : ℕ). getD (laidOut c) i 0) e ∙ past-due (32 + j) ∙ beyond 0 rulesPart _ 32 j (length-table _ 32)
+
+  pub column-at : (k v : ℕ) → k < 8 → v < 32 → setAt (laidOut c) (columnPlace k v) ≡ columnOf c k v
+  unfolding setAt
+  column-at k v h l =
+      past-rows (k * 32 + v) ∙ List·getD-append columnsPart _ 0 (k * 32 + v) (omega (arith, length-table (λ i. columnOf c (i / 32) (i % 32)) 256))
+      ∙ in-block (columnOf c) k v h l
+
+  -- entry j of a part of n entries
+  in-table : (f : ℕ → ℕ) (n j : ℕ) (rest : List ℕ) → j < n → getD (table f n ++ rest) j 0 ≡ f j
+  in-table f n j rest h = List·getD-append (table f n) rest 0 j (omega (arith, length-table f n)) ∙ getD-table f n j 0 h
+
+  pub loops-at : (k : ℕ) → k < 8 → setAt (laidOut c) (loopsPlace k) ≡ loopsOf c k
+  unfolding setAt
+  loops-at k h = past-columns k ∙ in-table (loopsOf c) 8 k _ h
+
+  pub due-at : (s : ℕ) → s < 8 → getD (laidOut c) (duePlace s) 0 ≡ dueOf c s
+  due-at s h = past-loops s ∙ in-table (dueOf c) 8 s _ h
+
+  pub rule-at : (i : ℕ) → i < 32 → getD (laidOut c) (rulePlace i) 0 ≡ packedOf c i
+  rule-at i h = past-due i ∙ in-table (packedOf c) 32 i _ h
+
+  pub allowed-at : (s : ℕ) → s < 8 → setAt (laidOut c) (allowedPlace s) ≡ allowedOf c s
+  unfolding setAt
+  allowed-at s h = past-rules s ∙ getD-table (allowedOf c) 8 s 0 h
+
+  pub allowed-past : (s : ℕ) → 8 ≤ s → setAt (laidOut c) (allowedPlace s) ≡ 0
+  unfolding setAt
+  allowed-past s h = past-rules s ∙ List·getD-eq-default allowedPart 0 (omega (arith, length-table (allowedOf c) 8))
