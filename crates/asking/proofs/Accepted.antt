@@ -56,7 +56,7 @@ module _ (c : Case) (p : List ℕ) where
       go false l e = absurd (Option·some-ne-none _ e)
 
   -- an entry that does not fail
-  passes : (i : ℕ) → badEntry c p i ≡ false → (getD p i 0 < people c) × (may c (getD p i 0) i ≡ true) × (holds c (take (suc i) p) ≡ true)
+  pub passes : (i : ℕ) → badEntry c p i ≡ false → (getD p i 0 < people c) × (may c (getD p i 0) i ≡ true) × (holds c (take (suc i) p) ≡ true)
   unfolding badEntry
   passes i e =
       let a = nor-false (not (ltb (getD p i 0) (people c))) _ e in

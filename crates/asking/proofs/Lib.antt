@@ -4,3 +4,4 @@ pub mod Exact
 pub mod Accepted
 pub mod Calls
 pub mod Steps
+pub mod OnCase

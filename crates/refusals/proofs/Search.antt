@@ -67,6 +67,19 @@ pub found-cong : (f g : ℕ → Bool) (n : ℕ) → ((i : ℕ) → i < n → f i
 unfolding foundFirst
 found-cong f g n h = ap head (keep-cong f g (upto n) (λ i m. h i (upto-in n i m)))
 
+-- tests that agree as far as nothing is found find the same
+pub found-along : (f g : ℕ → Bool) (n : ℕ) → ((i : ℕ) → i < n → ((j : ℕ) → j < i → f j ≡ false) → f i ≡ g i) → foundFirst f n ≡ foundFirst g n
+found-along f g n h = go (foundFirst f n) refl
+  where
+    go : (o : Option ℕ) → foundFirst f n ≡ o → foundFirst f n ≡ foundFirst g n
+    go none e =
+        let k = found-none f n e in
+        e ∙ sym (none-found g n (λ i l. sym (h i l (λ j m. k j (omega arith))) ∙ k i l))
+    go (some i) e =
+        let k = found-some f n i e in
+        e ∙ sym (some-found g n i (k .0) (sym (h i (k .0) (k .2)) ∙ k .1)
+        (λ j l. sym (h j (omega (arith, k .0)) (λ m q. k .2 m (omega arith))) ∙ k .2 j l))
+
 -- ---- The loop that searches n entries: i are passed, and the test held at none of them.
 
 pub record Searched (test : ℕ → Bool) (n i : ℕ) : Type 0 where
