@@ -21,7 +21,7 @@ use Rattle.cases.specs.Case.{people, steps}
 use Rattle.cases.specs.Plans.{may, holds, Valid}
 use Rattle.cases.proofs.Rounds.{start-valid, prefix-valid}
 use Rattle.refusals.specs.Refusals.{Check, refusal, refusalAt, foundFirst}
-use Rattle.refusals.proofs.Search.{found-none, none-found}
+use Rattle.refusals.proofs.Search.{entry-none, none-found}
 use Rattle.refusals.proofs.Conditions.{nor-false}
 use Rattle.asking.specs.Asking.{mostAbsent, numberCheck, badEntry, positionCheck, absenceCheck}
 
@@ -39,11 +39,6 @@ pub record GoodPosition (c : Case) (p : List ℕ) : Type 0 where
   pub known : (i : ℕ) → i < length p → getD p i 0 < people c
   pub valid : Valid c p
 
--- nothing is refused, so nothing was found
-unfound : (n : ℕ) (place : ℕ → ℕ) (o : Option ℕ) → refusalAt n place o ≡ none → o ≡ none
-unfound n place none e = refl
-unfound n place (some i) e = absurd (Option·some-ne-none _ e)
-
 module _ (c : Case) (p : List ℕ) where
   fine : positionCheck c p ≡ none → (length p < steps c) × ((i : ℕ) → i < length p → badEntry c p i ≡ false)
   unfolding positionCheck
@@ -52,7 +47,7 @@ module _ (c : Case) (p : List ℕ) where
       go : (b : Bool) → ltb (length p) (steps c) ≡ b
           → pick b (refusalAt 13 (λ i. i) (foundFirst (badEntry c p) (length p))) (some (refusal 13 (steps c))) ≡ none
           → (length p < steps c) × ((i : ℕ) → i < length p → badEntry c p i ≡ false)
-      go true l e = (ltb-true _ _ l, found-none (badEntry c p) (length p) (unfound 13 (λ i. i) _ e))
+      go true l e = (ltb-true _ _ l, entry-none 13 (λ i. i) (badEntry c p) (length p) e)
       go false l e = absurd (Option·some-ne-none _ e)
 
   -- an entry that does not fail

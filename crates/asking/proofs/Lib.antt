@@ -5,3 +5,4 @@ pub mod Accepted
 pub mod Calls
 pub mod Steps
 pub mod OnCase
+pub mod Laid

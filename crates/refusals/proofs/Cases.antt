@@ -1,8 +1,9 @@
 -- A case is judged exactly by the scope's table; and what stands above its counts does not matter.
-use mathlib.Core.Path.{_≡_, refl, ap, _∙_}
+use mathlib.Core.Path.{_≡_, refl, sym, ap, _∙_}
+use mathlib.Core.Logic.{inl, inr}
 use mathlib.Core.Bool.{Bool, true, false, not, _||_}
 use mathlib.Core.List.{List, [], _∷_}
-use Prim.Native.Nat.{ℕ}
+use Prim.Native.Nat.{ℕ, _<_}
 use borrow.Author.Tests.{ltb-false}
 use lib.Dec.{ltb, eqb}
 use Rattle.sets.specs.Sets.{past}
@@ -16,7 +17,8 @@ use Rattle.refusals.specs.Refusals.{Check, refusal, judgedBy, onlyCheck,
 use Rattle.refusals.specs.Offsets.{rowsIn, personPlace, stepPlace, rowPlace, rulePlace}
 use Rattle.refusals.specs.CaseChecks.{tooMany, Limited, badRule, stepEntry, rowEntry, ruleEntry, badPerson, badRoles, badOrder, badRow, countsCheck, entryChecks, caseChecks, judgedCase}
 use Rattle.refusals.specs.Table.{Exactly, countsRow, entryRows, caseTable}
-use Rattle.refusals.proofs.Order.{good-refused}
+use Rattle.refusals.proofs.Order.{good-refused, good-checks}
+use Rattle.refusals.proofs.Search.{entry-none}
 use Rattle.refusals.proofs.Table.{Tells, Told, exactly, only-tells, entry-tells}
 use Rattle.refusals.proofs.Conditions.{nor-false, past-names, too-many, bad-step, bad-rule}
 
@@ -130,3 +132,25 @@ good-fits c e = go (tooMany (c .counts)) refl
 
 pub good-limited : (c : Case) → judgedCase c ≡ Good → Limited (c .counts)
 good-limited c e = limited (c .counts) (good-fits c e)
+
+-- what a good case gives: no count is above its limit, and no entry fails
+pub record GoodCase (c : Case) : Type 0 where
+  pub limits : Limited (c .counts)
+  pub people : (i : ℕ) → i < c .counts .people → badPerson c i ≡ false
+  pub roles : (i : ℕ) → i < c .counts .steps → badRoles c i ≡ false
+  pub order : (i : ℕ) → i < c .counts .steps → badOrder c i ≡ false
+  pub rows : (i : ℕ) → i < rowsIn (c .counts) → badRow c i ≡ false
+  pub rules : (i : ℕ) → i < c .counts .rules → badRule (c .counts) (ruleEntry c i) ≡ false
+
+pub good-case : (c : Case) → judgedCase c ≡ Good → GoodCase c
+unfolding entryChecks
+good-case c e =
+    let each = good-checks (entryChecks c) (sym (entries-decide c (good-fits c e)) ∙ e) in
+    record {
+      limits = good-limited c e;
+      people = entry-none 7 _ _ _ (each _ (inl refl));
+      roles = entry-none 8 _ _ _ (each _ (inr (inl refl)));
+      order = entry-none 9 _ _ _ (each _ (inr (inr (inl refl))));
+      rows = entry-none 10 _ _ _ (each _ (inr (inr (inr (inl refl)))));
+      rules = entry-none 11 _ _ _ (each _ (inr (inr (inr (inr (inl refl))))));
+    }

@@ -2,7 +2,7 @@
 use mathlib.Core.Path.{_≡_, refl, sym, ap, subst, _∙_}
 use mathlib.Core.Logic.{inl, inr}
 use mathlib.Core.Bool.{Bool, true, false, true≢false}
-use mathlib.Core.Option.{Option, none, some}
+use mathlib.Core.Option.{Option, none, some, Option·some-ne-none}
 use mathlib.Core.List.{List, [], _∷_}
 use Prim.Native.Nat.{ℕ, _+_, _≤_, _<_}
 use native.Mathlib.Decide.{decLt}
@@ -10,7 +10,7 @@ use native.Mathlib.Omega.{arith}
 use Rattle.sets.specs.Lists.{_∈_, upto, keep, head}
 use Rattle.sets.proofs.Lists.{upto-in, upto-mem, head-none, head-some, keep-in, keep-mem, keep-nothing, keep-cong}
 use Rattle.sets.proofs.Ascending.{Ascending, kept-ascending, ascending-first}
-use Rattle.refusals.specs.Refusals.{foundFirst}
+use Rattle.refusals.specs.Refusals.{foundFirst, refusalAt, entryCheck}
 
 module _ (test : ℕ → Bool) (n : ℕ) where
   -- nothing is found: no index passes
@@ -61,6 +61,14 @@ module _ (test : ℕ → Bool) (n : ℕ) where
           go : Dec (j < i) → i ≤ j
           go (yes p) = absurd (true≢false (sym (keep-in test j (upto n) m .1) ∙ h j p))
           go (no p) = omega arith
+
+-- a check of entries that gives nothing: no entry fails
+pub entry-none : (n : ℕ) (place : ℕ → ℕ) (fails : ℕ → Bool) (m : ℕ) → entryCheck n place fails m ≡ none → (i : ℕ) → i < m → fails i ≡ false
+entry-none n place fails m e = found-none fails m (go (foundFirst fails m) e)
+  where
+    go : (o : Option ℕ) → refusalAt n place o ≡ none → o ≡ none
+    go none q = refl
+    go (some i) q = absurd (Option·some-ne-none _ q)
 
 -- tests that agree find the same
 pub found-cong : (f g : ℕ → Bool) (n : ℕ) → ((i : ℕ) → i < n → f i ≡ g i) → foundFirst f n ≡ foundFirst g n
