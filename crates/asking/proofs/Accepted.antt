@@ -1,15 +1,15 @@
 -- What an accepted absence number, position and absence set give.
 use mathlib.Core.Path.{_≡_, refl, sym, ap, subst, _∙_}
-use mathlib.Core.Bool.{Bool, true, false, not, _||_}
-use mathlib.Core.Option.{Option, none, some, Option·some-ne-none}
-use mathlib.Core.List.{List, [], _∷_, _++_}
+use mathlib.Core.Bool.{Bool, true, false, not}
+use mathlib.Core.Option.{none, some, Option·some-ne-none}
+use mathlib.Core.List.{List}
 use Prim.Native.Nat.{ℕ, zero, suc, _^_, _≤_, _<_}
 use native.Mathlib.Omega.{arith}
 use borrow.Author.Tests.{ltb-true, ltb-false, not-false, lt-ltb}
 use lib.Dec.{ltb}
 use lib.ListN.{length, getD, take, drop, take-append-drop}
 use lib.Seq.{take-all}
-use Rattle.sets.specs.Lists.{pick, onlyIf}
+use Rattle.sets.specs.Lists.{pick}
 use Rattle.sets.specs.Sets.{size, past}
 use Rattle.sets.specs.Stored.{width}
 use Rattle.sets.proofs.Lists.{onlyIf-none}
@@ -20,7 +20,7 @@ use Rattle.cases.specs.declared.Case.{Case}
 use Rattle.cases.specs.Case.{people, steps}
 use Rattle.cases.specs.Plans.{may, holds, Valid}
 use Rattle.cases.proofs.Rounds.{start-valid, prefix-valid}
-use Rattle.refusals.specs.Refusals.{Check, refusal, refusalAt, foundFirst}
+use Rattle.refusals.specs.Refusals.{refusal, refusalAt, foundFirst}
 use Rattle.refusals.proofs.Search.{entry-none, none-found}
 use Rattle.refusals.proofs.Conditions.{nor-false}
 use Rattle.asking.specs.Asking.{mostAbsent, numberCheck, badEntry, positionCheck, absenceCheck}

@@ -3,7 +3,7 @@ use mathlib.Core.Path.{_≡_, refl, sym, ap}
 use mathlib.Core.Logic.{_⊎_, inl, inr, _↔_}
 use mathlib.Core.Bool.{Bool, true, false, not, _||_}
 use mathlib.Core.Option.{some}
-use mathlib.Core.List.{List, [], _∷_}
+use mathlib.Core.List.{List}
 use Prim.Native.Nat.{ℕ, suc, _≤_, _<_}
 use native.Mathlib.Omega.{arith}
 use borrow.Author.Tests.{ltb-true, ltb-false, not-true}
@@ -15,11 +15,10 @@ use Rattle.sets.specs.Stored.{width}
 use Rattle.cases.specs.declared.Case.{Case}
 use Rattle.cases.specs.Case.{people, steps}
 use Rattle.cases.specs.Plans.{may, holds}
-use Rattle.refusals.specs.declared.Refusal.{Refusal}
-use Rattle.refusals.specs.Refusals.{Check, refusal, entryCheck}
+use Rattle.refusals.specs.Refusals.{refusal, entryCheck}
 use Rattle.refusals.specs.CaseChecks.{caseChecks}
 use Rattle.refusals.specs.Table.{Earliest, NamesPast, Exactly, caseTable}
-use Rattle.refusals.proofs.Table.{Tells, Told, exactly, told-append, only-tells, entry-tells}
+use Rattle.refusals.proofs.Table.{Tells, exactly, told-append, only-tells, entry-tells}
 use Rattle.refusals.proofs.Conditions.{either-is, below-is, not-below-is, past-names}
 use Rattle.refusals.proofs.Cases.{case-tells}
 use Rattle.asking.specs.Asking.{mostAbsent, numberCheck, badEntry, positionCheck, absenceCheck, questionChecks, awayChecks, adviceChecks, judgedQuestion, judgedAway, judgedAdvice}
@@ -107,7 +106,9 @@ module _ (c : Case) where
   -- static, decremental and dynamic
   pub question-exactly : (t : ℕ) → Exactly (questionTable c t) (judgedQuestion c t)
   unfolding judgedQuestion
-  question-exactly t = exactly (questionChecks c t) (questionTable c t) (told-append (caseChecks c) _ (caseTable c) _ (case-tells c) (number-tells t, tt)) refl
+  question-exactly t =
+      exactly (questionChecks c t) (questionTable c t)
+      (told-append (caseChecks c) _ (caseTable c) _ (case-tells c) (number-tells t, tt)) refl
 
   pub away-exactly : (p : List ℕ) (t : ℕ) → Exactly (awayTable c p t) (judgedAway c p t)
   unfolding judgedAway

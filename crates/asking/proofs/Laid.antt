@@ -1,11 +1,10 @@
 -- The board laid out for a good case: 13 on it is 13 of the case.
-use mathlib.Core.Path.{_≡_, sym, ap, subst, _∙_}
-use mathlib.Core.Bool.{Bool, true, false, true≢false}
+use mathlib.Core.Path.{_≡_, sym, subst, _∙_}
+use mathlib.Core.Bool.{true, false, true≢false}
 use mathlib.Core.List.{List}
 use Prim.Native.Nat.{ℕ, _+_, _≤_, _<_}
 use native.Mathlib.Decide.{decLt}
 use native.Mathlib.Omega.{arith}
-use lib.ListN.{getD}
 use Rattle.cases.specs.declared.Counts.{Counts}
 use Rattle.cases.specs.declared.Rule.{Rule}
 use Rattle.cases.specs.declared.Case.{Case}
@@ -15,7 +14,7 @@ use Rattle.refusals.specs.declared.Judged.the-variants.{Good}
 use Rattle.refusals.specs.CaseChecks.{badRule, ruleEntry, judgedCase}
 use Rattle.refusals.specs.Table.{BadRule, badForm, badRelation, badFirst}
 use Rattle.refusals.proofs.Conditions.{bad-rule}
-use Rattle.refusals.proofs.Cases.{GoodCase, good-case}
+use Rattle.refusals.proofs.Cases.{good-case}
 use Rattle.laying.specs.Laid.{laidOut}
 use Rattle.laying.specs.Ready.{Ready, ReadyRule}
 use Rattle.laying.proofs.Means.{allowed-means, fits-means}
@@ -29,7 +28,11 @@ not-bad n r e k = true≢false (sym (bad-rule n r .1 k) ∙ e)
 
 ready-rule : (c : Case) (r : Rule) → badRule (c .counts) r ≡ false → ReadyRule c r
 ready-rule c r e =
-    record { form = form (decLt 3 (r .form)); relation = relation (decLt (r .relation) (c .counts .tables + 2)); step = step (decLt (r .step .0) (steps c)) }
+    record {
+      form = form (decLt 3 (r .form));
+      relation = relation (decLt (r .relation) (c .counts .tables + 2));
+      step = step (decLt (r .step .0) (steps c));
+    }
   where
     form : Dec (3 < r .form) → r .form ≤ 3
     form (yes h) = absurd (not-bad (c .counts) r e (badForm (λ q. omega arith) (λ q. omega arith) (λ q. omega arith)))

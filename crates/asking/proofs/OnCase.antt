@@ -1,12 +1,12 @@
 -- On a board that means a case, 13 is 13 of the case.
-use mathlib.Core.Path.{_≡_, refl, sym, ap, ap₂, subst, _∙_}
-use mathlib.Core.Bool.{Bool, true, false, not, _||_}
+use mathlib.Core.Path.{_≡_, sym, ap, ap₂, _∙_}
+use mathlib.Core.Bool.{true, false, not, _||_}
 use mathlib.Core.Option.{some}
 use mathlib.Core.List.{List, [], _∷_, _++_}
 use Prim.Native.Nat.{ℕ, zero, suc, _≤_, _<_}
 use native.Mathlib.Decide.{decLt}
 use native.Mathlib.Omega.{arith}
-use borrow.Author.Tests.{lt-ltb, le-ltb}
+use borrow.Author.Tests.{le-ltb}
 use lib.Dec.{ltb}
 use lib.ListN.{length, getD, take, length-take}
 use lib.Seq.{take-suc, getD-take}
@@ -17,7 +17,7 @@ use Rattle.cases.specs.Case.{people, steps}
 use Rattle.cases.specs.Plans.{may, holds, Valid}
 use Rattle.cases.proofs.Rounds.{start-valid}
 use Rattle.boards.specs.Board.{allowedOn, fitsOn}
-use Rattle.refusals.specs.Refusals.{refusal, refusalAt, foundFirst}
+use Rattle.refusals.specs.Refusals.{refusal, refusalAt}
 use Rattle.refusals.proofs.Search.{found-along}
 use Rattle.asking.specs.Asking.{badEntry, positionCheck}
 use Rattle.asking.specs.OnBoard.{badNext, badEntryOn, positionCheckOn}
@@ -50,14 +50,18 @@ module _ (c : Case) (b p : List ℕ) (m : Means c b) (short : length p < steps c
       at : length (take i p) ≡ i
       at = omega (arith, length-take i p)
 
-      go : Dec (getD p i 0 < people c)
-          → not (ltb (getD p i 0) (people c)) || (not (may c (getD p i 0) i) || not (holds c (take (suc i) p)))
-          ≡ not (ltb (getD p i 0) (people c)) || (not (has (allowedOn b (length (take i p))) (getD p i 0)) || not (has (fitsOn b (take i p)) (getD p i 0)))
+      -- who stands there, and where they are known, allowed and fit
+      v : ℕ
+      v = getD p i 0
+
+      go : Dec (v < people c)
+          → not (ltb v (people c)) || (not (may c v i) || not (holds c (take (suc i) p)))
+          ≡ not (ltb v (people c)) || (not (has (allowedOn b (length (take i p))) v) || not (has (fitsOn b (take i p)) v))
       go (yes k) =
-          ap₂ (λ x y. not (ltb (getD p i 0) (people c)) || (not x || not y))
-          (sym (ap (λ s. has (allowedOn b s) (getD p i 0)) at ∙ m .allows (getD p i 0) i k (omega arith)))
-          (ap (holds c) (take-suc p i 0 l) ∙ sym (m .fits (take i p) (getD p i 0) k (omega (arith, at)) (valid-so-far i (omega arith) h)))
-      go (no k) = simp (le-ltb (getD p i 0) (people c) (omega arith))
+          ap₂ (λ x y. not (ltb v (people c)) || (not x || not y))
+          (sym (ap (λ s. has (allowedOn b s) v) at ∙ m .allows v i k (omega arith)))
+          (ap (holds c) (take-suc p i 0 l) ∙ sym (m .fits (take i p) v k (omega (arith, at)) (valid-so-far i (omega arith) h)))
+      go (no k) = simp (le-ltb v (people c) (omega arith))
 
 module _ (c : Case) (b p : List ℕ) (m : Means c b) where
   pub position-means : positionCheckOn b (people c) (steps c) p ≡ positionCheck c p

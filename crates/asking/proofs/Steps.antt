@@ -1,9 +1,9 @@
 -- What the code's steps come to, over plain values.
-use mathlib.Core.Path.{_≡_, refl, sym, ap, ap₂, _∙_}
+use mathlib.Core.Path.{_≡_, sym, ap, ap₂, _∙_}
 use mathlib.Core.Bool.{Bool, true, false, not, _||_}
-use mathlib.Core.Option.{Option, none, some}
+use mathlib.Core.Option.{none, some}
 use mathlib.Core.List.{List, [], _∷_, _++_}
-use Prim.Native.Nat.{ℕ, suc, _+_, _≤_, _<_}
+use Prim.Native.Nat.{ℕ, _+_, _≤_, _<_}
 use native.Mathlib.Numerals.{add-one}
 use native.Mathlib.Omega.{arith}
 use borrow.Author.Tests.{lt-ltb, le-ltb}
@@ -84,21 +84,22 @@ module _ (b : List ℕ) (n : ℕ) (p : Position) where
             ∙ ap (λ k. take k (persons p)) (sym (add-one i));
       }
 
-  -- what the check is where the position is too long, at the first entry that fails, and where none does
+  -- what the check is: where the position is too long, at the first entry that fails, and where none does
   abbrev Check-is : ℕ → Judged
   Check-is steps = judgedBy (positionCheckOn b n steps (persons p) ∷ [])
 
-  shown : (steps : ℕ) → p .len < steps → judgedBy (refusalAt 13 (λ i. i) (foundFirst (badEntryOn b n (persons p)) (length (persons p))) ∷ []) ≡ Check-is steps
+  -- where the test of the length comes out as x
+  abbrev As : ℕ → Bool → Judged
+  As steps x =
+      judgedBy (pick x (refusalAt 13 (λ i. i) (foundFirst (badEntryOn b n (persons p)) (length (persons p)))) (some (refusal 13 steps)) ∷ [])
+
+  shown : (steps : ℕ) → p .len < steps → As steps true ≡ Check-is steps
   unfolding positionCheckOn
-  shown steps h =
-      ap (λ (x : Bool). judgedBy (pick x (refusalAt 13 (λ i. i) (foundFirst (badEntryOn b n (persons p)) (length (persons p)))) (some (refusal 13 steps)) ∷ []))
-      (sym (lt-ltb (length (persons p)) steps (omega (arith, persons-length p))))
+  shown steps h = ap (As steps) (sym (lt-ltb (length (persons p)) steps (omega (arith, persons-length p))))
 
   pub position-long : (steps : ℕ) → steps ≤ p .len → Refused (refusal 13 steps) ≡ Check-is steps
   unfolding positionCheckOn judgedBy
-  position-long steps h =
-      ap (λ (x : Bool). judgedBy (pick x (refusalAt 13 (λ i. i) (foundFirst (badEntryOn b n (persons p)) (length (persons p)))) (some (refusal 13 steps)) ∷ []))
-      (sym (le-ltb (length (persons p)) steps (omega (arith, persons-length p))))
+  position-long steps h = ap (As steps) (sym (le-ltb (length (persons p)) steps (omega (arith, persons-length p))))
 
   pub position-hit : (steps : ℕ) {i : ℕ} {q : Position} {v : ℕ} {r : Bool} → p .len < steps → Passed b n p i q → i < p .len → v ≡ getD (persons p) i 0
       → r ≡ badNext b n (persons q) v → r ≡ true → Refused (refusal 13 i) ≡ Check-is steps

@@ -1,9 +1,8 @@
 -- What the code's steps come to, over plain values: a function's proof cites these with what its calls ensure.
-use mathlib.Core.Path.{_≡_, refl, sym, ap, _∙_}
+use mathlib.Core.Path.{_≡_, sym, ap, _∙_}
 use mathlib.Core.Bool.{Bool, true, false, not, _||_}
-use mathlib.Core.Option.{none, some}
-use mathlib.Core.List.{List, [], _∷_}
-use Prim.Native.Nat.{ℕ, _+_, _*_, _^_, _≤_, _<_}
+use mathlib.Core.List.{[], _∷_}
+use Prim.Native.Nat.{ℕ, _+_, _≤_, _<_}
 use native.Mathlib.Nat.{mul-le-mul}
 use native.Mathlib.Omega.{arith}
 use borrow.Author.Tests.{lt-ltb, le-ltb, le-leb}
@@ -20,7 +19,7 @@ use Rattle.cases.specs.Case.{mostPeople, mostSteps, mostRoles, mostTables, most
 use Rattle.cases.proofs.Rounds.{entry-at}
 use Rattle.refusals.specs.declared.Judged.{Judged}
 use Rattle.refusals.specs.declared.Judged.the-variants.{Good, Refused}
-use Rattle.refusals.specs.Refusals.{Check, refusal, orElse, refusalAt, judgedBy, foundFirst}
+use Rattle.refusals.specs.Refusals.{Check, refusal, orElse, refusalAt, judgedBy}
 use Rattle.refusals.specs.Offsets.{rowsIn}
 use Rattle.refusals.specs.CaseChecks.{tooMany, Limited, rightSize, stepEntry, rowEntry, ruleEntry, badPerson, badRoles, badOrder, badRow, badRule, entryChecks}
 use Rattle.refusals.proofs.Order.{judged-snoc}
@@ -100,7 +99,8 @@ module _ (c : Case) (k : Kind) {i : ℕ} where
   pub kind-hit : {j : Judged} {b : Bool} → Searched (failsAt c k) (manyOf (c .counts) k) i → i < manyOf (c .counts) k → b ≡ failsAt c k i → b ≡ true
       → j ≡ Refused (refusal (numberOf k) (placeOf (c .counts) k i)) → j ≡ judgedBy (kindCheck c k ∷ [])
   unfolding judgedBy
-  kind-hit s l e t q = q ∙ ap (λ o. judgedBy (refusalAt (numberOf k) (placeOf (c .counts) k) o ∷ [])) (search-hit (failsAt c k) (manyOf (c .counts) k) s l e t)
+  kind-hit s l e t q =
+      q ∙ ap (λ o. judgedBy (refusalAt (numberOf k) (placeOf (c .counts) k) o ∷ [])) (search-hit (failsAt c k) (manyOf (c .counts) k) s l e t)
 
   -- no entry fails
   pub kind-end : Searched (failsAt c k) (manyOf (c .counts) k) i → manyOf (c .counts) k ≤ i → Good ≡ judgedBy (kindCheck c k ∷ [])

@@ -1,6 +1,5 @@
 -- The kinds of entry: each has its number, how many entries it has, where they stand, and what they are refused for.
 use mathlib.Core.Bool.{Bool}
-use mathlib.Core.List.{List, [], _∷_}
 use Prim.Native.Nat.{ℕ}
 use Rattle.cases.specs.declared.Counts.{Counts}
 use Rattle.cases.specs.declared.Case.{Case}

@@ -2,7 +2,7 @@
 use mathlib.Core.Path.{_≡_, refl, sym, ap, _∙_}
 use mathlib.Core.Logic.{inl, inr}
 use mathlib.Core.Bool.{Bool, true, false, not, _||_}
-use mathlib.Core.List.{List, [], _∷_}
+use mathlib.Core.List.{[], _∷_}
 use Prim.Native.Nat.{ℕ, _<_}
 use borrow.Author.Tests.{ltb-false}
 use lib.Dec.{ltb, eqb}
@@ -13,7 +13,7 @@ use Rattle.cases.specs.declared.Case.{Case}
 use Rattle.cases.specs.Case.{mostPeople, mostSteps, mostRoles, mostTables, mostRules, zeroStep, zeroRule, entry, SameBelow}
 use Rattle.cases.proofs.Counted.{entry-same, held-same, for-same}
 use Rattle.refusals.specs.declared.Judged.the-variants.{Good, Refused}
-use Rattle.refusals.specs.Refusals.{Check, refusal, judgedBy, onlyCheck, entryCheck}
+use Rattle.refusals.specs.Refusals.{refusal, judgedBy, onlyCheck, entryCheck}
 use Rattle.refusals.specs.Offsets.{rowsIn, personPlace, stepPlace, rowPlace, rulePlace}
 use Rattle.refusals.specs.CaseChecks.{tooMany, Limited, badRule, stepEntry, rowEntry, ruleEntry, badPerson, badRoles, badOrder, badRow, countsCheck, entryChecks, caseChecks, judgedCase}
 use Rattle.refusals.specs.Table.{Exactly, countsRow, entryRows, caseTable}

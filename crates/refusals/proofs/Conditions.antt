@@ -5,14 +5,13 @@ use mathlib.Core.Bool.{Bool, true, false, not, _&&_, _||_, true≢false}
 use Prim.Native.Nat.{ℕ, _+_, _≤_, _<_}
 use native.Mathlib.Decide.{ℕ-discrete}
 use native.Mathlib.Omega.{arith}
-use borrow.Author.Tests.{ltb-true, ltb-false, leb-true, eqb-true, eqb-false, not-true, lt-ltb, le-ltb, le-leb, lt-leb, eq-eqb, ne-eqb}
+use borrow.Author.Tests.{ltb-true, ltb-false, leb-true, eqb-false, not-true, lt-ltb, le-ltb, le-leb, lt-leb, eq-eqb, ne-eqb}
 use lib.Dec.{ltb, leb, eqb}
 use Rattle.sets.specs.Lists.{pick}
 use Rattle.sets.specs.Sets.{size, members, past}
 use Rattle.sets.proofs.Lists.{any-mem, mem-any, and-true, true-and}
 use Rattle.sets.proofs.Members.{members-in, members-mem}
 use Rattle.cases.specs.declared.Counts.{Counts}
-use Rattle.cases.specs.declared.StepEntry.{StepEntry}
 use Rattle.cases.specs.declared.Rule.{Rule}
 use Rattle.cases.specs.declared.Case.{Case}
 use Rattle.cases.specs.Case.{mostPeople, mostSteps, mostRoles, mostTables, mostRules}
@@ -57,7 +56,9 @@ past-names room s n = (to, from)
         record { member = k .0; fits = m .0; listed = m .1; past = not-below-is (k .0) n .0 (k .2) }
 
     from : NamesPast room s n → past room s n ≡ true
-    from k = mem-any (λ v. not (ltb v n)) (members room s) (k .member) (members-mem room s (k .member) (k .fits) (k .listed)) (not-below-is (k .member) n .1 (k .past))
+    from k =
+        let m = members-mem room s (k .member) (k .fits) (k .listed) in
+        mem-any (λ v. not (ltb v n)) (members room s) (k .member) m (not-below-is (k .member) n .1 (k .past))
 
 -- ---- 4
 
@@ -141,11 +142,13 @@ wrong-size : (f x : ℕ) → (not (rightSize f x) ≡ true) ↔ WrongSize f x
 unfolding rightSize
 wrong-size f x = (to (ℕ-discrete f 1), from)
   where
+    -- the size asked for is the one of the form
+    picked : (b : Bool) → eqb f 1 ≡ b → not (rightSize f x) ≡ true → not (pick b (eqb (size mostSteps x) 1) (leb 1 (size mostSteps x))) ≡ true
+    picked b q e = ap (λ (t : Bool). not (pick t (eqb (size mostSteps x) 1) (leb 1 (size mostSteps x)))) (sym q) ∙ e
+
     to : Dec (f ≡ 1) → not (rightSize f x) ≡ true → WrongSize f x
-    to (yes a) e = inl (a, differs-is (size mostSteps x) 1 .0 (ap (λ (b : Bool). not (pick b (eqb (size mostSteps x) 1) (leb 1 (size mostSteps x)))) (sym (eq-eqb f 1 a)) ∙ e))
-    to (no a) e =
-        let q = ap (λ (b : Bool). not (pick b (eqb (size mostSteps x) 1) (leb 1 (size mostSteps x)))) (sym (ne-eqb f 1 a)) ∙ e in
-        inr (a, go (ℕ-discrete (size mostSteps x) 0) q)
+    to (yes a) e = inl (a, differs-is (size mostSteps x) 1 .0 (picked true (eq-eqb f 1 a) e))
+    to (no a) e = inr (a, go (ℕ-discrete (size mostSteps x) 0) (picked false (ne-eqb f 1 a) e))
       where
         go : Dec (size mostSteps x ≡ 0) → not (leb 1 (size mostSteps x)) ≡ true → size mostSteps x ≡ 0
         go (yes z) q = z
@@ -168,7 +171,8 @@ bad-rule n r = (λ e. to (sums .0 e), λ k. sums .1 (from k))
   where
     sums : (badRule n r ≡ true) ↔ WrongRule n r
     sums =
-        either-is _ _ (no-form _) (either-is _ _ (not-below-is _ _) (either-is _ _ (not-below-is _ _) (either-is _ _ (past-names _ _ _) (wrong-size _ _))))
+        either-is _ _ (no-form _)
+        (either-is _ _ (not-below-is _ _) (either-is _ _ (not-below-is _ _) (either-is _ _ (past-names _ _ _) (wrong-size _ _))))
 
     few : (r .form ≡ 1 → ⊥) → size mostSteps (r .group) ≡ 0 → Dec (r .form ≡ 2) → Dec (r .form ≡ 3) → BadRule n r
     few a z (yes b) d = empty (inl b) z

@@ -1,6 +1,6 @@
 -- Checks against the scope's table: one law for every list of checks, and the laws of its two kinds of row.
-use mathlib.Core.Path.{_≡_, refl, sym, ap, subst, _∙_}
-use mathlib.Core.Logic.{_⊎_, inl, inr, _↔_}
+use mathlib.Core.Path.{_≡_, refl, sym, ap, _∙_}
+use mathlib.Core.Logic.{inl, inr, _↔_}
 use mathlib.Core.Bool.{Bool, true, false, _&&_, true≢false}
 use mathlib.Core.Option.{Option, none, some}
 use mathlib.Core.List.{List, [], _∷_, _++_}
@@ -8,14 +8,12 @@ use Prim.Native.Nat.{ℕ, _<_}
 use native.Mathlib.Omega.{arith}
 use borrow.Author.Tests.{ltb-true}
 use lib.Dec.{ltb}
-use Rattle.sets.specs.Lists.{onlyIf}
 use Rattle.sets.proofs.Lists.{and-true}
 use Rattle.refusals.specs.declared.Refusal.{Refusal}
-use Rattle.refusals.specs.declared.Judged.{Judged}
 use Rattle.refusals.specs.declared.Judged.the-variants.{Good, Refused}
 use Rattle.refusals.specs.Refusals.{Check, refusal, judgedBy, onlyCheck, entryCheck, refusalAt, foundFirst}
 use Rattle.refusals.specs.Table.{Row, whole, Earliest, entries, Meets, Exactly}
-use Rattle.refusals.proofs.Search.{found-none, found-some, some-found}
+use Rattle.refusals.proofs.Search.{found-some, some-found}
 use Rattle.refusals.proofs.Order.{good-refused}
 
 -- ---- A check tells a row
@@ -95,7 +93,8 @@ give [] [] t h n p k l = absurd k
 give [] (row ∷ rows) t h n p k l = absurd t
 give (x ∷ checks) [] t h n p k l = absurd t
 give (none ∷ checks) (row ∷ rows) t h n p (inl k) l = absurd (untold none row (t .0) refl p (k .1))
-give (none ∷ checks) (row ∷ rows) t h n p (inr k) l = give checks rows (t .1) (and-true (below (row .number) rows) (rising rows) h .1) n p k (λ m q g w. l m q g (inr w))
+give (none ∷ checks) (row ∷ rows) t h n p (inr k) l =
+    give checks rows (t .1) (and-true (below (row .number) rows) (rising rows) h .1) n p k (λ m q g w. l m q g (inr w))
 give (some s ∷ checks) (row ∷ rows) t h n p (inl k) l =
     let e = t .0 .tells p (k .1) in
     let f = k .0 in

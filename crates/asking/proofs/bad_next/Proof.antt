@@ -16,7 +16,9 @@ has-requires : tie.Need-has-requires
 has-requires c κs = search needs
 
 returns-2 : tie.Need-returns-2
-returns-2 c = next-barred _ _ _ _ (c .before .before .before .if1 .left) (c .before .before .allowed .ensures) (c .before .has .ensures) (c .if2 .taken)
+returns-2 c =
+    let one = c .before .before in
+    next-barred _ _ _ _ (one .before .if1 .left) (one .allowed .ensures) (c .before .has .ensures) (c .if2 .taken)
 
 fits-requires : tie.Need-fits-requires
 fits-requires c κs = search needs
@@ -26,7 +28,10 @@ has-requires-2 c κs = search needs
 
 returns-3 : tie.Need-returns-3
 returns-3 c =
-    next-last _ _ _ _ (c .before .before .before .before .before .if1 .left) (c .before .before .before .before .allowed .ensures) (c .before .before .before .has .ensures) (c .before .before .if2 .left) (c .before .fits2 .ensures) (c .has2 .ensures)
+    let two = c .before .before in
+    let one = two .before .before in
+    next-last _ _ _ _ (one .before .if1 .left) (one .allowed .ensures) (two .before .has .ensures) (two .if2 .left) (c .before .fits2 .ensures)
+    (c .has2 .ensures)
 
 pub bad-next-spec : {M : Type 1} → statement M
 bad-next-spec = tie.close (tie.spec cast-if1 returns allowed-requires has-requires returns-2 fits-requires has-requires-2 returns-3)

@@ -35,7 +35,10 @@ cast-t14 c = search needs
 
 returns-2 : tie.Need-returns-2 Inv-loop μ-loop
 returns-2 c =
-    position-hit _ _ _ _ (c .before .before .before .before .before .before .if1 .left) (c .before .before .before .before .loop .inv) (c .before .before .before .loop-test .taken) (c .before .before .person .ensures) (c .before .bad-next .ensures) (c .if2 .taken)
+    let here = c .before .before in
+    let at = here .before .before in
+    position-hit _ _ _ _ (at .before .before .if1 .left) (at .loop .inv) (here .before .loop-test .taken) (here .person .ensures)
+    (c .before .bad-next .ensures) (c .if2 .taken)
 
 placed-requires : tie.Need-placed-requires Inv-loop μ-loop
 placed-requires c κs = search needs
@@ -48,8 +51,10 @@ loop-less c = omega arith
 
 loop-again : tie.Need-loop-again Inv-loop μ-loop
 loop-again c =
-    passed-step _ _ _ (c .before .before .before .before .before .loop .inv) (c .before .before .before .before .loop-test .taken) (omega arith) (c .before .before .before .person .ensures) (c .before .before .bad-next .ensures) (c .before .if2 .left)
-    (c .placed .ensures .1)
+    let here = c .before .before .before in
+    let at = here .before .before in
+    passed-step _ _ _ (at .loop .inv) (here .before .loop-test .taken) (omega arith) (here .person .ensures) (c .before .before .bad-next .ensures)
+    (c .before .if2 .left) (c .placed .ensures .1)
 
 returns-3 : tie.Need-returns-3 Inv-loop μ-loop
 returns-3 c = position-end _ _ _ _ (c .before .before .before .if1 .left) (c .before .loop .inv) (c .loop-test .left)

@@ -44,7 +44,9 @@ right-size-requires : tie.Need-right-size-requires
 right-size-requires c κs = search needs
 
 returns-6 : tie.Need-returns-6
-returns-6 c = rule-left _ _ (omega arith) (omega arith) (omega arith) (omega arith) (past-byte _ _ (omega arith) (c .before .before .past .ensures) ∙ c .before .if5 .left) (c .right-size .ensures)
+returns-6 c =
+    rule-left _ _ (omega arith) (omega arith) (omega arith) (omega arith)
+    (past-byte _ _ (omega arith) (c .before .before .past .ensures) ∙ c .before .if5 .left) (c .right-size .ensures)
 
 pub bad-rule-spec : {M : Type 1} → statement M
 bad-rule-spec =

@@ -1,6 +1,5 @@
 -- The invariant: none of the entries passed fails.
 use Prim.Native.Nat.{_-_}
-use mathlib.Core.Path.{sym}
 use native.Mathlib.Omega.{arith}
 use borrow.Author.Needs.{needs}
 use Rattle.refusals.proofs.Search.{Searched, search-start, search-step}
@@ -29,8 +28,9 @@ refuse-requires c κs = (c .before .before .before .before .before .pre, omega a
 
 returns : tie.Need-returns Inv-loop μ-loop
 returns c =
-    let a = c .before .before .before .before .before .before .args in
-    kind-hit (a .c) (a .k) (c .before .before .before .before .loop .inv) (omega arith) (c .before .before .fails .ensures) (c .before .if1 .taken) (c .refuse .ensures)
+    let at = c .before .before .before .before in
+    let a = at .before .before .args in
+    kind-hit (a .c) (a .k) (at .loop .inv) (omega arith) (c .before .before .fails .ensures) (c .before .if1 .taken) (c .refuse .ensures)
 
 add-i : tie.Need-add-i Inv-loop μ-loop
 add-i c = omega arith

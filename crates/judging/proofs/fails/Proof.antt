@@ -65,19 +65,29 @@ bad-rule-requires : tie.Need-bad-rule-requires
 bad-rule-requires c κs = search needs
 
 returns : tie.Need-returns
-returns c = rw (c .before .before .enum-told .given .1) (held-fails _ _ (rw (c .before .before .enum-told .given .1) at (c .before .before .before .before .pre .1)) (c .past .ensures))
+returns c =
+    let k = c .before .before .enum-told .given .1 in
+    rw k (held-fails _ _ (rw k at (c .before .before .before .before .pre .1)) (c .past .ensures))
 
 returns-2 : tie.Need-returns-2
-returns-2 c = rw (c .before .enum-told2 .given .1) (named-fails _ _ (rw (c .before .enum-told2 .given .1) at (c .before .before .before .pre .1)) (c .past2 .ensures))
+returns-2 c =
+    let k = c .before .enum-told2 .given .1 in
+    rw k (named-fails _ _ (rw k at (c .before .before .before .pre .1)) (c .past2 .ensures))
 
 returns-3 : tie.Need-returns-3
-returns-3 c = rw (c .before .before .enum-told3 .given .1) (order-fails _ _ (rw (c .before .before .enum-told3 .given .1) at (c .before .before .before .before .pre .1)) (c .bad-order .ensures))
+returns-3 c =
+    let k = c .before .before .enum-told3 .given .1 in
+    rw k (order-fails _ _ (rw k at (c .before .before .before .before .pre .1)) (c .bad-order .ensures))
 
 returns-4 : tie.Need-returns-4
-returns-4 c = rw (c .before .before .enum-told4 .given .1) (row-fails _ _ (rw (c .before .before .enum-told4 .given .1) at (c .before .before .before .before .pre .1)) (c .past3 .ensures))
+returns-4 c =
+    let k = c .before .before .enum-told4 .given .1 in
+    rw k (row-fails _ _ (rw k at (c .before .before .before .before .pre .1)) (c .past3 .ensures))
 
 returns-5 : tie.Need-returns-5
-returns-5 c = rw (c .before .before .before .enum-told5 .given .1) (rule-fails _ _ (rw (c .before .before .before .enum-told5 .given .1) at (c .before .before .before .before .before .pre .1)) (c .bad-rule .ensures))
+returns-5 c =
+    let k = c .before .before .before .enum-told5 .given .1 in
+    rw k (rule-fails _ _ (rw k at (c .before .before .before .before .before .pre .1)) (c .bad-rule .ensures))
 
 pub fails-spec : {M : Type 1} → statement M
 fails-spec =

@@ -31,13 +31,20 @@ cast-if4 c = search needs
 
 returns-4 : tie.Need-returns-4
 unfolding tooMany
-returns-4 c = simp (le-ltb _ _ (c .before .before .before .before .before .before .if1 .left), le-ltb _ _ (c .before .before .before .before .if2 .left), le-ltb _ _ (c .before .before .if3 .left), lt-ltb _ _ (c .if4 .taken))
+returns-4 c =
+    let third = c .before .before in
+    let second = third .before .before in
+    simp (le-ltb _ _ (second .before .before .if1 .left), le-ltb _ _ (second .if2 .left), le-ltb _ _ (third .if3 .left), lt-ltb _ _ (c .if4 .taken))
 
 cast-result : tie.Need-cast-result
 cast-result c = search needs
 
 returns-5 : tie.Need-returns-5
-returns-5 c = counts-left _ (c .before .before .before .before .before .before .before .if1 .left) (c .before .before .before .before .before .if2 .left) (c .before .before .before .if3 .left) (c .before .if4 .left)
+returns-5 c =
+    let fourth = c .before in
+    let third = fourth .before .before in
+    let second = third .before .before in
+    counts-left _ (second .before .before .if1 .left) (second .if2 .left) (third .if3 .left) (fourth .if4 .left)
 
 pub too-many-spec : {M : Type 1} → statement M
 too-many-spec =
