@@ -1,7 +1,6 @@
 -- The theorems of `cases`, in reading order; the laws that they rest on come first.
 pub mod Rules
 pub mod Positions
-pub mod Pairs
 pub mod Rounds
 pub mod Answers
 pub mod Play

@@ -6,6 +6,5 @@ pub mod Questions
 pub mod Chain
 pub mod Shown
 pub mod Play
--- What contracts of functions here cite besides: positions in memory, and the rule test's loop.
+-- What contracts of functions here cite besides: positions in memory.
 pub mod Positions
-pub mod Pairs

@@ -4,10 +4,7 @@ use mathlib.Core.List.{List}
 use Prim.Native.Nat.{ℕ, zero, suc}
 use lib.Dec.{eqb}
 use Rattle.sets.specs.Lists.{pick, all, any}
-use lib.ListN.{getD}
-use Rattle.sets.specs.Sets.{has, setOf, members}
-use Rattle.sets.specs.Stored.{width, number, noPeople}
-use Rattle.sets.specs.declared.People.{People}
+use Rattle.sets.specs.Sets.{has, members}
 use Rattle.cases.specs.declared.Rule.{Rule}
 use Rattle.cases.specs.declared.Case.{Case}
 use Rattle.cases.specs.Case.{mostSteps, row, rules}
@@ -37,7 +34,3 @@ kept c r who = needed (r .form) (λ x. related c (r .relation) (who (r .step .0)
 -- every rule, all of whose steps are filled, holds
 unfoldable pub rulesHold : Case → (ℕ → Bool) → (ℕ → ℕ) → Bool
 rulesHold c isFilled who = all (λ r. not (filled r isFilled) || kept c r who) (rules c)
-
--- The test of a single rule for everybody at once, where pair x holds with the people of `pairs`, entry x: those with whom the rule is kept.
-unfoldable pub keepersOf : ℕ → ℕ → List People → ℕ
-keepersOf form group pairs = setOf (λ u. needed form (λ x. has (number (getD pairs x noPeople)) u) (stepsIn group)) width

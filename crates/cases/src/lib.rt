@@ -1,13 +1,10 @@
 // The case: people, roles, steps, relation tables and rules, with its limits. It knows sets and games, and nothing of files or searches.
 use sets::People;
-use sets::holds;
 ghost use mathlib.Core.Path.{_≡_};
 ghost use lib.ListN.{getD};
 ghost use Rattle.sets.specs.Sets.{setOf};
 ghost use Rattle.sets.specs.Stored.{width, number};
-ghost use Rattle.cases.specs.Case.{emptyCase, mostSteps};
-ghost use Rattle.cases.specs.Rules.{keepersOf};
-ghost use Rattle.cases.specs.Pairs.{Gathered};
+ghost use Rattle.cases.specs.Case.{emptyCase};
 ghost use Rattle.cases.specs.Positions.{startPosition, persons, placedNext, nextPersons};
 
 // A person's number. Persons and steps both count from 0, and neither stands where the other is due.
@@ -148,22 +145,6 @@ impl Case {
     }
 }
 
-// The people with whom every pair of a rule is in the relation, and those with whom some pair is.
-struct Paired {
-    every: People,
-    some: People,
-}
-
-// The test of a single rule, for everybody at once: the people with whom, placed next, the rule is kept. `pairs[x]` are the people with whom the
-// pair of s and step x is in the relation. Forms 1 and 3 ask for the pair with every step of X, form 2 for some pair.
-pub fn keepers(form: u8, group: u8, pairs: [People; Case::STEPS]) -> People
-    ensures { λ r. ⌜ number r ≡ keepersOf form group pairs ⌝ }
-{
-    let p = over_group(group, pairs);
-    let two = everybody_if(form == 2);
-    p.every.difference(two).joined(p.some.common(two))
-}
-
 // Everybody, or nobody.
 pub fn everybody_if(wanted: bool) -> People
     ensures { λ r. ⌜ number r ≡ setOf (λ u. wanted) width ⌝ }
@@ -172,28 +153,5 @@ pub fn everybody_if(wanted: bool) -> People
         People::everybody(People::WIDTH)
     } else {
         People::none()
-    }
-}
-
-// Goes over the steps of X.
-fn over_group(group: u8, pairs: [People; Case::STEPS]) -> Paired
-    ensures { λ r. ⌜ Gathered group pairs mostSteps (r .every) (r .some) ⌝ }
-{
-    let mut every = everybody_if(true);
-    let mut some = everybody_if(false);
-    let mut x: u8 = 0;
-    while (x as usize) < Case::STEPS {
-        let here = pairs[x as usize];
-        let listed = holds(group as u16, x);
-        x += 1;
-        if !listed {
-            continue;
-        }
-        every = every.common(here);
-        some = some.joined(here);
-    }
-    Paired {
-        every: every,
-        some: some,
     }
 }

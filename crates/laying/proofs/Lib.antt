@@ -6,3 +6,4 @@ pub mod Joined
 pub mod Places
 pub mod Means
 pub mod OnBoard
+pub mod Good
