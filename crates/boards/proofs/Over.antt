@@ -38,7 +38,8 @@ module _ {whole left x : ℕ} {done : List ℕ} (o : Over whole left x done) whe
   over-step h left′ x′ l e =
       record {
         next = e;
-        split = o .split ∙ ap (λ (r : List ℕ). done ++ r) (lowest-some 32 left x (is-some left x (o .next) h) .2 ∙ ap (λ (s : ℕ). x ∷ members 32 s) (sym l))
+        split = o .split ∙ ap (λ (r : List ℕ). done ++ r)
+            (lowest-some 32 left x (is-some left x (o .next) h) .2 ∙ ap (λ (s : ℕ). x ∷ members 32 s) (sym l))
             ∙ sym (append-snoc done x (members 32 left′));
       }
 
@@ -66,13 +67,17 @@ module _ (test : ℕ → ℕ → Bool) where
       → every′ ≡ common width every here → every′ ≡ setOf (everyOf (done ++ (x ∷ []))) width
   unfolding all
   every-step done x every here every′ e h q =
-      q ∙ setOf-ext _ _ width (λ u l. ap₂ _&&_ (has-of every (everyOf done) e u l) (h u l ∙ sym (and-true-end (test x u))) ∙ sym (all-append (λ i. test i u) done (x ∷ [])))
+      q ∙ setOf-ext _ _ width
+      (λ u l. ap₂ _&&_ (has-of every (everyOf done) e u l) (h u l ∙ sym (and-true-end (test x u)))
+      ∙ sym (all-append (λ i. test i u) done (x ∷ [])))
 
   some-step : (done : List ℕ) (x one here one′ : ℕ) → one ≡ setOf (someOf done) width → ((u : ℕ) → u < width → has here u ≡ test x u)
       → one′ ≡ joined width one here → one′ ≡ setOf (someOf (done ++ (x ∷ []))) width
   unfolding any
   some-step done x one here one′ e h q =
-      q ∙ setOf-ext _ _ width (λ u l. ap₂ _||_ (has-of one (someOf done) e u l) (h u l ∙ sym (or-false-end (test x u))) ∙ sym (any-append (λ i. test i u) done (x ∷ [])))
+      q ∙ setOf-ext _ _ width
+      (λ u l. ap₂ _||_ (has-of one (someOf done) e u l) (h u l ∙ sym (or-false-end (test x u)))
+      ∙ sym (any-append (λ i. test i u) done (x ∷ [])))
 
   -- ---- every
 

@@ -26,7 +26,8 @@ module _ (b : List ℕ) (p : Position) (k s x : ℕ) where
 
   -- s is the next step or not, and x is it or not
   pub pair-as : (c d : Bool) → eqb s (p .len) ≡ c → eqb x (p .len) ≡ d
-      → pick c (pick d (setAt b (loopsPlace k)) (setAt b (columnPlace k (getD (persons p) x 0)))) (pick d row (setOf (λ u. has row (getD (persons p) x 0)) width))
+      → pick c (pick d (setAt b (loopsPlace k)) (setAt b (columnPlace k (getD (persons p) x 0))))
+      (pick d row (setOf (λ u. has row (getD (persons p) x 0)) width))
       ≡ pairOn b (persons p) k s x
   unfolding pairOn
   pair-as c d e f = rw (persons-length p, e, f)
@@ -38,7 +39,8 @@ module _ (b : List ℕ) (p : Position) (k s x : ℕ) where
     pub pair-column : s ≡ p .len → setAt b (columnPlace k v) ≡ pairOn b (persons p) k s x
     pair-column e = ap (λ (z : ℕ). setAt b (columnPlace k z)) w ∙ pair-as true false (eq-eqb s (p .len) e) (ne-eqb x (p .len) f)
 
-    pub pair-filled : (u r : ℕ) → u ≡ getD (persons p) s 0 → r ≡ setAt b (rowPlace k u) → (s ≡ p .len → ⊥) → setOf (λ y. has r v) width ≡ pairOn b (persons p) k s x
+    pub pair-filled : (u r : ℕ) → u ≡ getD (persons p) s 0 → r ≡ setAt b (rowPlace k u) → (s ≡ p .len → ⊥)
+        → setOf (λ y. has r v) width ≡ pairOn b (persons p) k s x
     pair-filled u r h q e =
         ap₂ (λ (y z : ℕ). setOf (λ o. has y z) width) (q ∙ ap (λ (z : ℕ). setAt b (rowPlace k z)) h) w
         ∙ pair-as false false (ne-eqb s (p .len) e) (ne-eqb x (p .len) f)
@@ -63,7 +65,8 @@ module _ (b : List ℕ) (p : List ℕ) (r : Rule) (small : r .group < 256) where
   test = pairTest b p r
 
   kept-as : (c : Bool) → eqb (r .form) 2 ≡ c
-      → setOf (λ u. pick c (any (λ x. test x u) (members 32 (r .group))) (all (λ x. test x u) (members 32 (r .group)))) width ≡ setOf (keptOn b p r) width
+      → setOf (λ u. pick c (any (λ x. test x u) (members 32 (r .group))) (all (λ x. test x u) (members 32 (r .group)))) width
+      ≡ setOf (keptOn b p r) width
   unfolding keptOn needed
   kept-as c e = setOf-ext _ _ width (λ u l. rw (steps-wide (r .group) small, e))
 
@@ -81,9 +84,11 @@ pair-here b p k s x here q u l = ap (λ (z : ℕ). has z u) q
 abbrev pub dueTest : List ℕ → List ℕ → ℕ → ℕ → Bool
 dueTest b p i u = keptOn b p (ruleOn b i) u
 
-pub due-here : (b p : List ℕ) (i here : ℕ) (r : Rule) → here ≡ setOf (keptOn b p r) width → r ≡ ruleOn b i → (u : ℕ) → u < width → has here u ≡ dueTest b p i u
+pub due-here : (b p : List ℕ) (i here : ℕ) (r : Rule) → here ≡ setOf (keptOn b p r) width → r ≡ ruleOn b i → (u : ℕ) → u < width
+    → has here u ≡ dueTest b p i u
 due-here b p i here r q e u l = ap (λ (z : ℕ). has z u) q ∙ has-setOf (keptOn b p r) width u l ∙ ap (λ z. keptOn b p z u) e
 
-pub fits-are : (b : List ℕ) (p : Position) (s : ℕ) → s ≡ setOf (λ u. all (λ i. dueTest b (persons p) i u) (members 32 (dueOn b (p .len)))) width → s ≡ fitsOn b (persons p)
+pub fits-are : (b : List ℕ) (p : Position) (s : ℕ)
+    → s ≡ setOf (λ u. all (λ i. dueTest b (persons p) i u) (members 32 (dueOn b (p .len)))) width → s ≡ fitsOn b (persons p)
 unfolding fitsOn
 fits-are b p s q = q ∙ ap (λ (n : ℕ). setOf (λ u. all (λ i. dueTest b (persons p) i u) (members 32 (dueOn b n))) width) (sym (persons-length p))

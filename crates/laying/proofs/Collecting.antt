@@ -27,7 +27,8 @@ module _ (test : ℕ → Bool) where
   collect-start set e =
       record {
         upto = omega arith;
-        those = e ∙ is-setOf _ 32 0 (pow-pos 32) (λ u l. has-empty u ∙ sym (ap (λ (b : Bool). test u && b) (le-ltb u 0 (omega arith)) ∙ and-false-end (test u)));
+        those = e ∙ is-setOf _ 32 0 (pow-pos 32)
+            (λ u l. has-empty u ∙ sym (ap (λ (b : Bool). test u && b) (le-ltb u 0 (omega arith)) ∙ and-false-end (test u)));
       }
 
   -- one person more: those before, and this one where the test holds
@@ -37,7 +38,8 @@ module _ (test : ℕ → Bool) where
       go : Dec (u < n) → Dec (n < u) → (b : Bool) → test n ≡ b → pick b (test u && ltb u n || eqb u n) (test u && ltb u n) ≡ test u && ltb u (n + 1)
       go (yes l) r true q = rw (lt-ltb u n l, lt-ltb u (n + 1) (omega arith), ne-eqb u n (λ k. omega arith)) (or-false-end (test u && true))
       go (yes l) r false q = rw (lt-ltb u n l, lt-ltb u (n + 1) (omega arith))
-      go (no l) (yes r) true q = rw (le-ltb u n (omega arith), le-ltb u (n + 1) (omega arith), ne-eqb u n (λ k. omega arith)) (or-false-end (test u && false))
+      go (no l) (yes r) true q = rw (le-ltb u n (omega arith), le-ltb u (n + 1) (omega arith), ne-eqb u n (λ k. omega arith))
+          (or-false-end (test u && false))
       go (no l) (yes r) false q = rw (le-ltb u n (omega arith), le-ltb u (n + 1) (omega arith))
       go (no l) (no r) true q =
           let same : u ≡ n = omega arith in
@@ -56,7 +58,8 @@ module _ (test : ℕ → Bool) where
       go : (b : Bool) → b ≡ test n → pick b (with 32 set n) set ≡ setOf (λ u. test u && ltb u (n + 1)) 32
       go true e =
           setOf-ext _ _ 32 (λ u l.
-          ap (λ (x : Bool). x || eqb u n) (ap (λ (s : ℕ). has s u) (g .those) ∙ has-setOf (λ w. test w && ltb w n) 32 u l) ∙ one-more n u true (sym e))
+          ap (λ (x : Bool). x || eqb u n) (ap (λ (s : ℕ). has s u) (g .those) ∙ has-setOf (λ w. test w && ltb w n) 32 u l)
+          ∙ one-more n u true (sym e))
       go false e = g .those ∙ setOf-ext _ _ 32 (λ u l. one-more n u false (sym e))
 
   pub collect-end : {n set : ℕ} → Collected test n set → 32 ≤ n → set ≡ setOf test 32

@@ -22,7 +22,9 @@ none-fails f (x ∷ xs) = go (f x) (none-fails f xs)
     go true e = e
     go false e = refl
 
-pub filled-is : (r : Rule) (n : ℕ) → r .group < 256 → (p b : Bool) → p ≡ past 16 (r .group) n → b ≡ ltb (r .step .0) n && not p → b ≡ filled r (first n)
+pub filled-is : (r : Rule) (n : ℕ) → r .group < 256 → (p b : Bool) → p ≡ past 16 (r .group) n → b ≡ ltb (r .step .0) n && not p
+    → b ≡ filled r (first n)
 unfolding past filled stepsIn
 filled-is r n small p b e q =
-    q ∙ ap (λ (x : Bool). ltb (r .step .0) n && x) (ap not (e ∙ past-width 16 8 (r .group) n (omega arith) small) ∙ none-fails (first n) (members 8 (r .group)))
+    q ∙ ap (λ (x : Bool). ltb (r .step .0) n && x)
+    (ap not (e ∙ past-width 16 8 (r .group) n (omega arith) small) ∙ none-fails (first n) (members 8 (r .group)))

@@ -61,4 +61,10 @@ module _ (c : Case) (good : judgedCase c ≡ Good) where
   pub good-ready : Ready c
   good-ready =
       let n = good-limited c good in
-      record { people = n .people; steps = n .steps; tables = n .tables; rules = n .rules; each = λ i l. rule-ready (getD (c .rules) i zeroRule) (rule-passes i l) }
+      record {
+        people = n .people;
+        steps = n .steps;
+        tables = n .tables;
+        rules = n .rules;
+        each = λ i l. rule-ready (getD (c .rules) i zeroRule) (rule-passes i l);
+      }

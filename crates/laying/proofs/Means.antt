@@ -68,7 +68,8 @@ module _ (r : Rule) (f : r .form < 256) (k : r .relation < 256) (s : r .step .0 
 -- only the first eight bits of a set of steps are looked at
 steps-low : (g : ℕ) → stepsIn (g % 256) ≡ stepsIn g
 unfolding stepsIn members
-steps-low g = keep-cong (has (g % 256)) (has g) (upto 8) (λ x m. sym (ap (λ (z : ℕ). has z x) whole ∙ has-low (g / 256) 8 (g % 256) x (upto-in 8 x m)))
+steps-low g = keep-cong (has (g % 256)) (has g) (upto 8)
+    (λ x m. sym (ap (λ (z : ℕ). has z x) whole ∙ has-low (g / 256) 8 (g % 256) x (upto-in 8 x m)))
   where
     whole : g ≡ g / 256 * 2 ^ 8 + g % 256
     whole = omega arith
@@ -173,10 +174,13 @@ module _ (c : Case) (ready : Ready c) where
       pub kept-means : keptOn b p (ruleOn b i) u ≡ kept c (rule i) who
       unfolding keptOn kept on-board
       kept-means =
-          let f = form-back (rule i) (omega (arith, good .form)) (omega (arith, good .relation, ready .tables)) (omega (arith, good .step, ready .steps)) in
-          let k = relation-back (rule i) (omega (arith, good .form)) (omega (arith, good .relation, ready .tables)) (omega (arith, good .step, ready .steps)) in
-          let s = step-back (rule i) (omega (arith, good .form)) (omega (arith, good .relation, ready .tables)) (omega (arith, good .step, ready .steps)) in
-          let g = group-back (rule i) (omega (arith, good .form)) (omega (arith, good .relation, ready .tables)) (omega (arith, good .step, ready .steps)) in
+          let form : rule i .form < 256 = omega (arith, good .form) in
+          let relation : rule i .relation < 256 = omega (arith, good .relation, ready .tables) in
+          let step : rule i .step .0 < 256 = omega (arith, good .step, ready .steps) in
+          let f = form-back (rule i) form relation step in
+          let k = relation-back (rule i) form relation step in
+          let s = step-back (rule i) form relation step in
+          let g = group-back (rule i) form relation step in
           let g′ : stepsIn (unpacked (packed (rule i)) .group) ≡ stepsIn (rule i .group) = ap stepsIn g ∙ steps-low (rule i .group) in
           ap on-board rule-is
           ∙ (λ j. needed (f j) (λ x. has (pairOn b p (k j) (s j) x) u) (g′ j))
@@ -252,7 +256,8 @@ module _ (c : Case) (ready : Ready c) where
     one-kept : holds c (p ++ (u ∷ [])) ≡ true → (i : ℕ) → i ∈ members 32 (dueOn b n) → keptOn b p (ruleOn b i) u ≡ true
     one-kept h i m =
         let d = due-in i m in
-        let o = all-mem (holdsOne (p ++ (u ∷ []))) (upto (c .counts .rules)) (sym (holds-each (p ++ (u ∷ []))) ∙ h) i (upto-mem (c .counts .rules) i (d .0)) in
+        let o = all-mem (holdsOne (p ++ (u ∷ []))) (upto (c .counts .rules)) (sym (holds-each (p ++ (u ∷ []))) ∙ h) i
+        (upto-mem (c .counts .rules) i (d .0)) in
         kept-means i (d .0) (d .1)
         ∙ sym (ap (λ (t : Bool). not t || kept c (rule i) who) (ap (λ (k : ℕ). filled (rule i) (first k)) longer ∙ d .1)) ∙ o
 

@@ -41,7 +41,10 @@ module _ (c : Case) (ready : Ready c) where
             let o = offered-in c p u m h in
             let k = onlyIf-some (holds c (p ++ (m ∷ []))) (p ++ (m ∷ [])) q e in
             subst (Valid c) (k .1)
-            (record { able = snoc-each c (λ x i. may c x i ≡ true) p m (v .able) (subst (λ x. may c x (length p) ≡ true) (sym (o .0)) (o .1)); kept = k .0 });
+            (record {
+              able = snoc-each c (λ x i. may c x i ≡ true) p m (v .able) (subst (λ x. may c x (length p) ≡ true) (sym (o .0)) (o .1));
+              kept = k .0;
+            });
       }
 
   -- ---- from any valid position
@@ -68,7 +71,8 @@ module _ (c : Case) (ready : Ready c) where
     -- ---- the walks of play
 
     pub advice-on-board : (t A : ℕ)
-        → (let w = advice (boardChain (laidOut c) (people c)) t (steps c - length p) A p in record { got = personOf (w .got); trials = w .trials }) ≡ adviceAt c t A p
+        → (let w = advice (boardChain (laidOut c) (people c)) t (steps c - length p) A p in record { got = personOf (w .got); trials = w .trials })
+        ≡ adviceAt c t A p
     advice-on-board t A = ap (λ w. record { got = personOf (w .got); trials = w .trials }) (advice-from t (steps c - length p) A)
 
     pub away-on-board : (t : ℕ) → away (boardChain (laidOut c) (people c)) t (steps c - length p) p ≡ awayAt c t p

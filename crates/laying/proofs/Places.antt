@@ -93,7 +93,9 @@ module _ (c : Case) where
 
   pub row-at : (k u : ℕ) → k < 8 → u < 32 → setAt (laidOut c) (rowPlace k u) ≡ rowOf c k u
   unfolding laidOut setAt
-  row-at k u h l = List·getD-append rowsPart _ 0 (rowPlace k u) (omega (arith, length-table (λ i. rowOf c (i / 32) (i % 32)) 256)) ∙ in-block (rowOf c) k u h l
+  row-at k u h l =
+      List·getD-append rowsPart _ 0 (rowPlace k u) (omega (arith, length-table (λ i. rowOf c (i / 32) (i % 32)) 256))
+      ∙ in-block (rowOf c) k u h l
 
   -- past the rows, the columns, the loops, the rules due, and the rules
   beyond : {A : Type 0} (d : A) (l rest : List A) (n j : ℕ) → length l ≡ n → getD (l ++ rest) (n + j) d ≡ getD rest j d

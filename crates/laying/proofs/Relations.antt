@@ -62,15 +62,21 @@ module _ (c : Case) (k u : ℕ) where
   pub same-row : k ≡ 0 → (s r : ℕ) → s ≡ 0 → r ≡ with width s u → r ≡ rowOf c k u
   unfolding rowOf related
   same-row e s r z q =
-      q ∙ setOf-ext _ _ width (λ v l. ap (λ (b : Bool). b || eqb v u) (ap (λ (n : ℕ). has n v) z ∙ has-empty v) ∙ eqb-turned v u ∙ ap (λ (j : ℕ). related c j u v) (sym e))
+      q ∙ setOf-ext _ _ width
+      (λ v l. ap (λ (b : Bool). b || eqb v u) (ap (λ (n : ℕ). has n v) z ∙ has-empty v)
+      ∙ eqb-turned v u ∙ ap (λ (j : ℕ). related c j u v) (sym e))
 
   pub different-row : k ≡ 1 → (s r : ℕ) → s ≡ setOf (λ v. true) width → r ≡ without width s u → r ≡ rowOf c k u
   unfolding rowOf related
   different-row e s r z q =
-      q ∙ setOf-ext _ _ width (λ v l. ap₂ (λ (a b : Bool). a && not b) (ap (λ (n : ℕ). has n v) z ∙ has-setOf (λ w. true) width v l) (eqb-turned v u) ∙ ap (λ (j : ℕ). related c j u v) (sym e))
+      q ∙ setOf-ext _ _ width
+      (λ v l. ap₂ (λ (a b : Bool). a && not b) (ap (λ (n : ℕ). has n v) z ∙ has-setOf (λ w. true) width v l) (eqb-turned v u)
+      ∙ ap (λ (j : ℕ). related c j u v) (sym e))
 
   pub table-row : (k ≡ 0 → ⊥) → (k ≡ 1 → ⊥) → (s t r : ℕ) → s ≡ setOf (λ v. true) width → t ≡ row c (k - 2) u → r ≡ common width s t → r ≡ rowOf c k u
   unfolding rowOf related
   table-row n m s t r z e q =
       let at : suc (suc (k - 2)) ≡ k = omega arith in
-      q ∙ setOf-ext _ _ width (λ v l. ap₂ _&&_ (ap (λ (x : ℕ). has x v) z ∙ has-setOf (λ w. true) width v l) (ap (λ (x : ℕ). has x v) e) ∙ ap (λ (j : ℕ). related c j u v) at)
+      q ∙ setOf-ext _ _ width
+      (λ v l. ap₂ _&&_ (ap (λ (x : ℕ). has x v) z ∙ has-setOf (λ w. true) width v l) (ap (λ (x : ℕ). has x v) e)
+      ∙ ap (λ (j : ℕ). related c j u v) at)

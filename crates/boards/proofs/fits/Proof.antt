@@ -24,7 +24,8 @@ lowest-in-requires : tie.Need-lowest-in-requires Inv-loop μ-loop
 lowest-in-requires c κs = search needs
 
 loop-holds : tie.Need-loop-holds Inv-loop μ-loop
-loop-holds c = narrowed-start _ _ _ _ (c .before .before .everybody-if .result) (c .before .due .ensures) (c .lowest-in .ensures) (c .before .before .everybody-if .ensures)
+loop-holds c = narrowed-start _ _ _ _ (c .before .before .everybody-if .result) (c .before .due .ensures) (c .lowest-in .ensures)
+    (c .before .before .everybody-if .ensures)
 
 rule-requires : tie.Need-rule-requires Inv-loop μ-loop
 rule-requires c κs = search needs
@@ -42,12 +43,15 @@ lowest-in-requires-2 : tie.Need-lowest-in-requires-2 Inv-loop μ-loop
 lowest-in-requires-2 c κs = search needs
 
 loop-less : tie.Need-loop-less Inv-loop μ-loop
-loop-less c = over-less (c .before .before .before .before .before .before .loop .inv .over) (c .before .before .before .before .before .loop-test .taken) _ (c .before .without .ensures)
+loop-less c = over-less (c .before .before .before .before .before .before .loop .inv .over)
+    (c .before .before .before .before .before .loop-test .taken) _ (c .before .without .ensures)
 
 loop-again : tie.Need-loop-again Inv-loop μ-loop
 loop-again c =
-    narrowed-step _ (c .before .before .before .before .before .before .loop .inv) (c .before .before .before .before .before .loop-test .taken) _ _ (c .before .before .before .keepers .result) (c .before .before .common .result) (c .before .without .ensures) (c .lowest-in2 .ensures)
-    (due-here _ _ _ _ _ (c .before .before .before .keepers .ensures) (c .before .before .before .before .rule .ensures)) (c .before .before .common .ensures)
+    narrowed-step _ (c .before .before .before .before .before .before .loop .inv) (c .before .before .before .before .before .loop-test .taken) _ _
+    (c .before .before .before .keepers .result) (c .before .before .common .result) (c .before .without .ensures) (c .lowest-in2 .ensures)
+    (due-here _ _ _ _ _ (c .before .before .before .keepers .ensures) (c .before .before .before .before .rule .ensures))
+    (c .before .before .common .ensures)
 
 returns : tie.Need-returns Inv-loop μ-loop
 returns c = fits-are _ _ _ (narrowed-end _ (c .before .loop .inv) (c .loop-test .left))

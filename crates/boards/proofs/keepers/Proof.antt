@@ -27,7 +27,8 @@ lowest-in-requires : tie.Need-lowest-in-requires Inv-loop μ-loop
 lowest-in-requires c κs = search needs
 
 loop-holds : tie.Need-loop-holds Inv-loop μ-loop
-loop-holds c = gathered-start _ _ _ (c .before .before .before .everybody-if .result) (c .before .before .everybody-if2 .result) (c .lowest-in .ensures) (c .before .before .before .everybody-if .ensures) (c .before .before .everybody-if2 .ensures)
+loop-holds c = gathered-start _ _ _ (c .before .before .before .everybody-if .result) (c .before .before .everybody-if2 .result)
+    (c .lowest-in .ensures) (c .before .before .before .everybody-if .ensures) (c .before .before .everybody-if2 .ensures)
 
 pair-requires : tie.Need-pair-requires Inv-loop μ-loop
 pair-requires c κs = search needs
@@ -45,19 +46,24 @@ lowest-in-requires-2 : tie.Need-lowest-in-requires-2 Inv-loop μ-loop
 lowest-in-requires-2 c κs = search needs
 
 loop-less : tie.Need-loop-less Inv-loop μ-loop
-loop-less c = over-less (c .before .before .before .before .before .before .loop .inv .over) (c .before .before .before .before .before .loop-test .taken) _ (c .before .without .ensures)
+loop-less c = over-less (c .before .before .before .before .before .before .loop .inv .over)
+    (c .before .before .before .before .before .loop-test .taken) _ (c .before .without .ensures)
 
 loop-again : tie.Need-loop-again Inv-loop μ-loop
 loop-again c =
     let at = c .before .before .before .before .before .before .loop in
-    gathered-step _ (at .inv) (c .before .before .before .before .before .loop-test .taken) _ _ (c .before .before .before .before .pair .result) (c .before .before .before .common .result) (c .before .before .joined .result) (c .before .without .ensures) (c .lowest-in2 .ensures)
-    (pair-here _ _ _ _ _ _ (c .before .before .before .before .pair .ensures)) (c .before .before .before .common .ensures) (c .before .before .joined .ensures)
+    gathered-step _ (at .inv) (c .before .before .before .before .before .loop-test .taken) _ _ (c .before .before .before .before .pair .result)
+    (c .before .before .before .common .result) (c .before .before .joined .result) (c .before .without .ensures) (c .lowest-in2 .ensures)
+    (pair-here _ _ _ _ _ _ (c .before .before .before .before .pair .ensures)) (c .before .before .before .common .ensures)
+    (c .before .before .joined .ensures)
 
 returns : tie.Need-returns Inv-loop μ-loop
-returns c = kept-some _ _ _ (omega arith) _ (gathered-end _ (c .before .before .before .loop .inv) (c .before .before .loop-test .left) .1) (c .if1 .taken)
+returns c = kept-some _ _ _ (omega arith) _ (gathered-end _ (c .before .before .before .loop .inv) (c .before .before .loop-test .left) .1)
+    (c .if1 .taken)
 
 returns-2 : tie.Need-returns-2 Inv-loop μ-loop
-returns-2 c = kept-every _ _ _ (omega arith) _ (gathered-end _ (c .before .before .before .loop .inv) (c .before .before .loop-test .left) .0) (c .if1 .left)
+returns-2 c = kept-every _ _ _ (omega arith) _ (gathered-end _ (c .before .before .before .loop .inv) (c .before .before .loop-test .left) .0)
+    (c .if1 .left)
 
 pub keepers-spec : {M : Type 1} → statement M
 keepers-spec =

@@ -38,7 +38,8 @@ at-requires-2 : tie.Need-at-requires-2
 at-requires-2 c κs = search needs
 
 returns-2 : tie.Need-returns-2
-returns-2 c = c .at2 .ensures ∙ pair-column _ _ _ _ _ _ (c .before .before .before .before .before .before .before .person .ensures) (c .before .before .if2 .left) (c .before .before .before .before .before .if1 .taken)
+returns-2 c = c .at2 .ensures ∙ pair-column _ _ _ _ _ _ (c .before .before .before .before .before .before .before .person .ensures)
+    (c .before .before .if2 .left) (c .before .before .before .before .before .if1 .taken)
 
 person-requires-2 : tie.Need-person-requires-2
 person-requires-2 c κs = search needs
@@ -56,7 +57,8 @@ at-requires-3 : tie.Need-at-requires-3
 at-requires-3 c κs = search needs
 
 returns-3 : tie.Need-returns-3
-returns-3 c = c .before .before .before .at3 .ensures ∙ pair-row _ _ _ _ _ _ (c .before .before .before .before .before .person2 .ensures) (c .before .before .before .before .before .before .if1 .left) (c .if3 .taken)
+returns-3 c = c .before .before .before .at3 .ensures ∙ pair-row _ _ _ _ _ _ (c .before .before .before .before .before .person2 .ensures)
+    (c .before .before .before .before .before .before .if1 .left) (c .if3 .taken)
 
 has-requires : tie.Need-has-requires
 has-requires c κs = search needs
@@ -68,7 +70,9 @@ returns-4 : tie.Need-returns-4
 returns-4 c =
     c .everybody-if .ensures
     ∙ ap (λ (t : Bool). setOf (λ u. t) width) (c .before .has .ensures)
-    ∙ pair-filled _ _ _ _ _ _ (c .before .before .before .before .before .before .before .before .before .before .person .ensures) (c .before .before .if3 .left) _ _ (c .before .before .before .before .before .before .before .person2 .ensures) (c .before .before .before .before .before .at3 .ensures) (c .before .before .before .before .before .before .before .before .if1 .left)
+    ∙ pair-filled _ _ _ _ _ _ (c .before .before .before .before .before .before .before .before .before .before .person .ensures)
+    (c .before .before .if3 .left) _ _ (c .before .before .before .before .before .before .before .person2 .ensures)
+    (c .before .before .before .before .before .at3 .ensures) (c .before .before .before .before .before .before .before .before .if1 .left)
 
 pub pair-spec : {M : Type 1} → statement M
 pair-spec =

@@ -47,7 +47,8 @@ loop-again : tie.Need-loop-again Inv-loop μ-loop
 unfolding may
 loop-again c =
     collect-step _ (c .before .before .before .before .loop .inv) (c .before .before .before .loop-test .taken) _ _
-    (c .before .share .ensures ∙ ap₂ (meets mostRoles) (c .before .before .roles-held .ensures) (c .before .before .before .before .before .before .roles-for .ensures)) (c .with-if .ensures)
+    (c .before .share .ensures ∙ ap₂ (meets mostRoles) (c .before .before .roles-held .ensures)
+    (c .before .before .before .before .before .before .roles-for .ensures)) (c .with-if .ensures)
 
 returns : tie.Need-returns Inv-loop μ-loop
 unfolding allowedOf

@@ -50,7 +50,10 @@ loop-less c = omega arith
 
 loop-again : tie.Need-loop-again Inv-loop μ-loop
 loop-again c =
-    collect-step _ (c .before .before .before .before .before .loop .inv) (c .before .before .before .before .loop-test .taken) _ _ (both-of (ltb (c .before .before .before .before .before .loop .i) (c .before .before .before .before .before .before .args .t1 .counts .rules)) _ _ _ (c .before .both .ensures) (c .before .before .completes .ensures)) (c .with-rule-if .ensures)
+    collect-step _ (c .before .before .before .before .before .loop .inv) (c .before .before .before .before .loop-test .taken) _ _
+    (both-of (ltb (c .before .before .before .before .before .loop .i)
+    (c .before .before .before .before .before .before .args .t1 .counts .rules)) _ _ _ (c .before .both .ensures)
+    (c .before .before .completes .ensures)) (c .with-rule-if .ensures)
 
 returns : tie.Need-returns Inv-loop μ-loop
 unfolding dueOf

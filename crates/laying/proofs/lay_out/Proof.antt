@@ -60,9 +60,14 @@ put-requires-6 c κs = search needs
 
 returns : tie.Need-returns
 returns c =
-    laid _ _ _ _ _ _ _ _ _ _ _ _ _ _
-    (c .before .before .before .before .before .before .before .before .before .before .before .before .before .before .before .before .before .before .before .rows .ensures) (c .before .before .before .before .before .before .before .before .before .before .before .before .before .before .before .before .before .columns .ensures) (c .before .before .before .before .before .before .before .before .before .before .before .before .before .before .before .loops .ensures) (c .before .before .before .before .before .before .before .before .before .before .before .before .before .before .due .ensures) (c .before .before .before .before .before .before .before .before .before .before .before .before .before .rules .ensures) (c .before .before .before .before .before .before .before .before .before .before .before .before .allowed .ensures) refl
-    (c .before .before .before .before .before .before .before .before .before .before .put .ensures) (c .before .before .before .before .before .before .before .before .put2 .ensures) (c .before .before .before .before .before .before .put3 .ensures) (c .before .before .before .before .put4 .ensures) (c .before .before .put5 .ensures) (c .put6 .ensures)
+    let made = c .before .before .before .before .before .before .before .before .before .before .before .before in
+    laid _ _ _ _ _ _ _ _ _ _ _ _ _ _ (made .before .before .before .before .before .before .before .rows .ensures)
+    (made .before .before .before .before .before .columns .ensures)
+    (made .before .before .before .loops .ensures) (made .before .before .due .ensures) (made .before .rules .ensures) (made .allowed .ensures) refl
+    (c .before .before .before .before .before .before .before .before .before .before .put .ensures)
+    (c .before .before .before .before .before .before .before .before .put2 .ensures)
+    (c .before .before .before .before .before .before .put3 .ensures) (c .before .before .before .before .put4 .ensures)
+    (c .before .before .put5 .ensures) (c .put6 .ensures)
 
 pub lay-out-spec : {M : Type 1} → statement M
 lay-out-spec =

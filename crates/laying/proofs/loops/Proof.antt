@@ -39,7 +39,8 @@ loop-less : tie.Need-loop-less Inv-loop μ-loop
 loop-less c = omega arith
 
 loop-again : tie.Need-loop-again Inv-loop μ-loop
-loop-again c = fill-step _ _ (c .before .before .before .loop .inv) (c .before .before .loop-test .taken) (c .word .ensures ∙ c .before .loops-of .ensures)
+loop-again c = fill-step _ _ (c .before .before .before .loop .inv) (c .before .before .loop-test .taken)
+    (c .word .ensures ∙ c .before .loops-of .ensures)
 
 returns : tie.Need-returns Inv-loop μ-loop
 returns c = fill-end _ _ (c .before .loop .inv) (c .loop-test .left)

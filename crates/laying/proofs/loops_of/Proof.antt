@@ -49,7 +49,8 @@ loop-less c = omega arith
 
 loop-again : tie.Need-loop-again Inv-loop μ-loop
 loop-again c =
-    collect-step _ (c .before .before .before .before .before .loop .inv) (c .before .before .before .before .loop-test .taken) _ _ (has-in _ _ _ _ (c .before .has .ensures) (c .before .before .at .ensures)) (c .with-if .ensures)
+    collect-step _ (c .before .before .before .before .before .loop .inv) (c .before .before .before .before .loop-test .taken) _ _
+    (has-in _ _ _ _ (c .before .has .ensures) (c .before .before .at .ensures)) (c .with-if .ensures)
 
 returns : tie.Need-returns Inv-loop μ-loop
 unfolding loopsIn

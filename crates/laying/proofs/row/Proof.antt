@@ -35,7 +35,8 @@ common-requires c κs = search needs
 
 returns-3 : tie.Need-returns-3
 returns-3 c =
-    table-row _ _ _ (c .before .before .before .before .if1 .left) (c .before .before .if2 .left) _ _ _ (c .before .before .before .everybody-if .ensures)
+    table-row _ _ _ (c .before .before .before .before .if1 .left) (c .before .before .if2 .left) _ _ _
+    (c .before .before .before .everybody-if .ensures)
     (c .before .table-row .ensures) (c .common .ensures)
 
 pub row-spec : {M : Type 1} → statement M
