@@ -1,0 +1,2 @@
+-- What writing a case into a lent buffer comes to.
+pub mod Writing
