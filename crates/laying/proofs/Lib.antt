@@ -6,4 +6,3 @@ pub mod Joined
 pub mod Places
 pub mod Means
 pub mod OnBoard
-pub mod Good
