@@ -1,6 +1,7 @@
 // The board: what the searches read. It is one array of plain numbers, lent down every search; specs/Board.antt says what stands at each place.
 // This crate reads a board and does not know how one is laid out from a case. No function has a `requires`: past a board's end every number reads
 // 0 and every set is of nobody.
+use cases::Case;
 use cases::Position;
 use cases::Rule;
 use cases::Step;
@@ -14,6 +15,12 @@ ghost use Rattle.sets.specs.Sets.{setOf};
 ghost use Rattle.sets.specs.Stored.{width, number};
 ghost use Rattle.cases.specs.Positions.{persons};
 ghost use Rattle.boards.specs.Board.{unpacked, allowedOn, dueOn, ruleOn, pairOn, keptOn, fitsOn};
+
+// How many relations there are: "same person", "different person" and the tables.
+pub const RELATIONS: usize = Case::TABLES + 2;
+
+// How many rows there are, and how many columns: one for each relation and person.
+pub const ROWS: usize = RELATIONS * Case::PEOPLE;
 
 // How many numbers a board has.
 pub const PLACES: usize = 568;

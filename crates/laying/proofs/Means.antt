@@ -1,16 +1,16 @@
 -- The board means the case: who may do the next step, and with whom the rules are kept.
 use mathlib.Core.Path.{_≡_, refl, sym, ap, ap₂, _∙_}
 use mathlib.Core.Logic.{_⊎_, inl, inr}
-use mathlib.Core.Bool.{Bool, true, false, not, _&&_, _||_, true≢false}
+use mathlib.Core.Bool.{Bool, true, false, not, _&&_, _||_}
 use mathlib.Core.List.{List, [], _∷_, _++_, map}
-use Prim.Native.Nat.{ℕ, suc, _+_, _*_, _/_, _%_, _^_, _≤_, _<_}
+use Prim.Native.Nat.{ℕ, _+_, _*_, _/_, _%_, _^_, _≤_, _<_}
 use native.Mathlib.Decide.{decLt}
 use native.Mathlib.Omega.{arith}
 use borrow.Author.Tests.{eq-eqb, ne-eqb, lt-ltb, ltb-true, not-true}
 use lib.Dec.{eqb, ltb}
 use lib.ListN.{length, getD, length-append, List·getD-append}
 use lib.Seq.{getD-append-seam}
-use Rattle.sets.specs.Lists.{pick, _∈_, upto, keep, all, any}
+use Rattle.sets.specs.Lists.{pick, _∈_, upto, all}
 use Rattle.sets.specs.Sets.{has, setOf, members}
 use Rattle.sets.specs.Stored.{width, setAt}
 use Rattle.sets.proofs.Lists.{and-true, true-and, lt-or-eq, upto-in, upto-mem, keep-cong, all-mem, mem-all}

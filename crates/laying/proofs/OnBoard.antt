@@ -1,11 +1,11 @@
 -- On the board of a case that is ready, from a valid position, every walk is the walk of the case: the same answer after the same trials.
-use mathlib.Core.Path.{_≡_, sym, ap, _∙_, subst}
-use mathlib.Core.Option.{Option, some}
+use mathlib.Core.Path.{_≡_, sym, ap, subst}
+use mathlib.Core.Option.{Option}
 use mathlib.Core.Bool.{Bool, true}
 use mathlib.Core.List.{List, [], _∷_, _++_}
 use Prim.Native.Nat.{ℕ, _-_, _<_}
 use lib.ListN.{length}
-use Rattle.sets.specs.Lists.{onlyIf, consIf, _∈_}
+use Rattle.sets.specs.Lists.{onlyIf, consIf}
 use Rattle.sets.specs.Sets.{has}
 use Rattle.sets.proofs.Lists.{onlyIf-some}
 use Rattle.games.specs.Walks.{plan, static, decremental, dynamic, advice, away}

@@ -5,7 +5,7 @@ use Prim.Native.Nat.{ℕ, _+_, _*_, _/_, _%_, _≤_, _<_}
 use native.Mathlib.Omega.{arith}
 use lib.ListN.{length, getD, length-append, List·getD-append, List·getD-eq-default}
 use lib.Seq.{paste, getD-append-add}
-use Rattle.sets.specs.Sets.{has, setOf}
+use Rattle.sets.specs.Sets.{has}
 use Rattle.sets.specs.Stored.{width, setAt}
 use Rattle.sets.proofs.Counting.{has-setOf, setOf-ext}
 use Rattle.words.specs.Part.{table}
@@ -15,7 +15,7 @@ use Rattle.cases.specs.Case.{mostSteps, mostRules}
 use Rattle.cases.specs.Rules.{related}
 use Rattle.boards.specs.Board.{rowPlace, columnPlace, loopsPlace, duePlace, rulePlace, allowedPlace}
 use Rattle.laying.specs.Laid.{rowOf, columnOf, loopsOf, dueOf, packedOf, allowedOf, laidOut}
-use Rattle.laying.specs.Loops.{columnIn, loopsIn, Begins}
+use Rattle.laying.specs.Loops.{columnIn, loopsIn}
 use Rattle.laying.proofs.Joined.{begins-start, begins-step, begins-end}
 
 -- ---- relation by relation, 32 people each

@@ -1,18 +1,15 @@
 -- The rows of the relations.
-use mathlib.Core.Path.{_≡_, refl, sym, ap, ap₂, _∙_}
-use mathlib.Core.Bool.{Bool, true, false, not, _&&_, _||_}
-use mathlib.Core.List.{List}
+use mathlib.Core.Path.{_≡_, sym, ap, ap₂, _∙_}
+use mathlib.Core.Bool.{Bool, true, not, _&&_, _||_}
 use Prim.Native.Nat.{ℕ, suc, _+_, _-_, _*_, _≤_, _<_}
 use native.Mathlib.Nat.{mul-le-mul}
 use native.Mathlib.Decide.{ℕ-discrete}
 use native.Mathlib.Omega.{arith}
 use borrow.Author.Tests.{eq-eqb, ne-eqb, lt-ltb, le-ltb}
-use lib.Dec.{eqb, ltb}
+use lib.Dec.{eqb}
 use lib.ListN.{length, getD, List·getD-eq-default}
-use Rattle.sets.specs.Lists.{pick}
 use Rattle.sets.specs.Sets.{has, setOf, with, without, common}
 use Rattle.sets.specs.Stored.{width, number, noPeople}
-use Rattle.sets.proofs.Lists.{and-true-end}
 use Rattle.sets.proofs.Bits.{has-empty}
 use Rattle.sets.proofs.Counting.{has-setOf, setOf-ext}
 use Rattle.sets.proofs.Records.{number-none}

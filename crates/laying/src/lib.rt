@@ -4,6 +4,8 @@ use boards::COLUMNS;
 use boards::DUE;
 use boards::LOOPS;
 use boards::PLACES;
+use boards::RELATIONS;
+use boards::ROWS;
 use boards::RULES;
 use cases::Case;
 use cases::Rule;
@@ -14,14 +16,12 @@ use sets::share;
 use sets::with;
 use words::both;
 ghost use mathlib.Core.Path.{_≡_};
-ghost use mathlib.Core.Bool.{_&&_};
-ghost use Prim.Native.Nat.{_+_, _*_, _/_, _%_, _≤_, _<_};
-ghost use lib.Dec.{ltb};
-ghost use lib.ListN.{length, getD};
+ghost use Prim.Native.Nat.{_+_, _/_, _%_, _≤_, _<_};
+ghost use lib.ListN.{length};
 ghost use lib.Seq.{paste};
 ghost use Rattle.sets.specs.Lists.{pick};
-ghost use Rattle.sets.specs.Sets.{has, setOf, with};
-ghost use Rattle.sets.specs.Stored.{width, number, setAt};
+ghost use Rattle.sets.specs.Sets.{with};
+ghost use Rattle.sets.specs.Stored.{width, number};
 ghost use Rattle.words.specs.Part.{table};
 ghost use Rattle.cases.specs.Case.{mostSteps, mostRules, row, rolesHeld, rolesFor};
 ghost use Rattle.cases.specs.Rules.{filled};
@@ -62,12 +62,12 @@ fn put(board: [u32; PLACES], at: usize, part: &[u32]) -> [u32; PLACES]
 }
 
 // The rows of the relations, relation by relation, in each one row for each of 32 people.
-fn rows(c: Case) -> [u32; 256]
+fn rows(c: Case) -> [u32; ROWS]
     ensures { λ r. ⌜ r ≡ table (λ i. rowOf c (i / 32) (i % 32)) 256 ⌝ }
 {
-    let mut out = [0u32; 256];
+    let mut out = [0u32; ROWS];
     let mut i: u16 = 0;
-    while i < 256 {
+    while (i as usize) < ROWS {
         out[i as usize] = row(c, (i / 32) as u8, (i % 32) as u8).word();
         i += 1;
     }
@@ -108,12 +108,12 @@ fn table_row(c: Case, k: u8, u: u8) -> People
 }
 
 // The columns of the relations: for each relation and person v the people whose row has v.
-fn columns(rows: &[u32; 256]) -> [u32; 256]
+fn columns(rows: &[u32; ROWS]) -> [u32; ROWS]
     ensures { λ r. ⌜ r ≡ table (λ i. columnIn (now (rows .entry)) (i / 32) (i % 32)) 256 ⌝ }
 {
-    let mut out = [0u32; 256];
+    let mut out = [0u32; ROWS];
     let mut i: u16 = 0;
-    while i < 256 {
+    while (i as usize) < ROWS {
         out[i as usize] = column(rows, (i / 32) as u8, (i % 32) as u8).word();
         i += 1;
     }
@@ -121,7 +121,7 @@ fn columns(rows: &[u32; 256]) -> [u32; 256]
 }
 
 // The people whose row in relation k has v.
-fn column(rows: &[u32; 256], k: u8, v: u8) -> People
+fn column(rows: &[u32; ROWS], k: u8, v: u8) -> People
     ensures { λ r. ⌜ number r ≡ columnIn (now (rows .entry)) k v ⌝ }
 {
     let mut set = People::none();
@@ -135,12 +135,12 @@ fn column(rows: &[u32; 256], k: u8, v: u8) -> People
 }
 
 // For each relation the people who are in it with themselves.
-fn loops(rows: &[u32; 256]) -> [u32; 8]
+fn loops(rows: &[u32; ROWS]) -> [u32; RELATIONS]
     ensures { λ r. ⌜ r ≡ table (loopsIn (now (rows .entry))) 8 ⌝ }
 {
-    let mut out = [0u32; 8];
+    let mut out = [0u32; RELATIONS];
     let mut k: u8 = 0;
-    while k < 8 {
+    while (k as usize) < RELATIONS {
         out[k as usize] = loops_of(rows, k).word();
         k += 1;
     }
@@ -148,7 +148,7 @@ fn loops(rows: &[u32; 256]) -> [u32; 8]
 }
 
 // The people whose row in relation k has themselves.
-fn loops_of(rows: &[u32; 256], k: u8) -> People
+fn loops_of(rows: &[u32; ROWS], k: u8) -> People
     ensures { λ r. ⌜ number r ≡ loopsIn (now (rows .entry)) k ⌝ }
 {
     let mut set = People::none();
@@ -167,7 +167,7 @@ fn due(c: Case) -> [u32; Case::STEPS]
 {
     let mut out = [0u32; Case::STEPS];
     let mut s: u8 = 0;
-    while s < 8 {
+    while (s as usize) < Case::STEPS {
         out[s as usize] = due_at(c, s);
         s += 1;
     }
@@ -181,7 +181,7 @@ fn due_at(c: Case, s: u8) -> u32
 {
     let mut set = 0;
     let mut i: u8 = 0;
-    while i < 32 {
+    while (i as usize) < Case::RULES {
         let rule = c.rules[i as usize];
         let wanted = both((i as u16) < c.counts.rules, completes(rule, s));
         set = with_rule_if(set, i, wanted);
@@ -211,7 +211,7 @@ fn rules(c: Case) -> [u32; Case::RULES]
 {
     let mut out = [0u32; Case::RULES];
     let mut i: u8 = 0;
-    while i < 32 {
+    while (i as usize) < Case::RULES {
         let rule = c.rules[i as usize];
         out[i as usize] = pack(rule);
         i += 1;
@@ -234,7 +234,7 @@ fn allowed(c: Case) -> [u32; Case::STEPS]
 {
     let mut out = [0u32; Case::STEPS];
     let mut s: u8 = 0;
-    while s < 8 {
+    while (s as usize) < Case::STEPS {
         out[s as usize] = allowed_at(c, s).word();
         s += 1;
     }

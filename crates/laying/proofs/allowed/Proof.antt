@@ -17,6 +17,9 @@ abbrev μ-loop : tie.MeasureT-loop
 loop-holds : tie.Need-loop-holds Inv-loop μ-loop
 loop-holds c = fill-start _ _ _ refl
 
+cast-loop : tie.Need-cast-loop Inv-loop μ-loop
+cast-loop c = omega arith
+
 allowed-at-requires : tie.Need-allowed-at-requires Inv-loop μ-loop
 allowed-at-requires c κs = search needs
 
@@ -52,6 +55,7 @@ allowed-spec =
     Inv-loop
     μ-loop
     loop-holds
+    cast-loop
     allowed-at-requires
     word-requires
     cast-out

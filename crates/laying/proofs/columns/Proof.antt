@@ -17,6 +17,9 @@ abbrev μ-loop : tie.MeasureT-loop
 loop-holds : tie.Need-loop-holds Inv-loop μ-loop
 loop-holds c = fill-start _ _ _ refl
 
+cast-loop : tie.Need-cast-loop Inv-loop μ-loop
+cast-loop c = omega arith
+
 cast-column : tie.Need-cast-column Inv-loop μ-loop
 cast-column c = omega arith
 
@@ -58,6 +61,7 @@ columns-spec =
     Inv-loop
     μ-loop
     loop-holds
+    cast-loop
     cast-column
     cast-column-2
     column-requires

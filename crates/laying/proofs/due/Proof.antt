@@ -17,6 +17,9 @@ abbrev μ-loop : tie.MeasureT-loop
 loop-holds : tie.Need-loop-holds Inv-loop μ-loop
 loop-holds c = fill-start _ _ _ refl
 
+cast-loop : tie.Need-cast-loop Inv-loop μ-loop
+cast-loop c = omega arith
+
 due-at-requires : tie.Need-due-at-requires Inv-loop μ-loop
 due-at-requires c κs = search needs
 
@@ -48,6 +51,7 @@ due-spec =
     Inv-loop
     μ-loop
     loop-holds
+    cast-loop
     due-at-requires
     cast-out
     mul-out

@@ -17,6 +17,9 @@ abbrev μ-loop : tie.MeasureT-loop
 loop-holds : tie.Need-loop-holds Inv-loop μ-loop
 loop-holds c = fill-start _ _ _ refl
 
+cast-loop : tie.Need-cast-loop Inv-loop μ-loop
+cast-loop c = omega arith
+
 loops-of-requires : tie.Need-loops-of-requires Inv-loop μ-loop
 loops-of-requires c κs = search needs
 
@@ -52,6 +55,7 @@ loops-spec =
     Inv-loop
     μ-loop
     loop-holds
+    cast-loop
     loops-of-requires
     word-requires
     cast-out

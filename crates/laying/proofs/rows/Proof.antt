@@ -17,6 +17,9 @@ abbrev μ-loop : tie.MeasureT-loop
 loop-holds : tie.Need-loop-holds Inv-loop μ-loop
 loop-holds c = fill-start _ _ _ refl
 
+cast-loop : tie.Need-cast-loop Inv-loop μ-loop
+cast-loop c = omega arith
+
 cast-row : tie.Need-cast-row Inv-loop μ-loop
 cast-row c = omega arith
 
@@ -57,6 +60,7 @@ rows-spec =
     Inv-loop
     μ-loop
     loop-holds
+    cast-loop
     cast-row
     cast-row-2
     row-requires

@@ -17,6 +17,9 @@ abbrev μ-loop : tie.MeasureT-loop
 loop-holds : tie.Need-loop-holds Inv-loop μ-loop
 loop-holds c = fill-start _ _ _ refl
 
+cast-loop : tie.Need-cast-loop Inv-loop μ-loop
+cast-loop c = omega arith
+
 cast-rule : tie.Need-cast-rule Inv-loop μ-loop
 cast-rule c = omega arith
 
@@ -58,6 +61,7 @@ rules-spec =
     Inv-loop
     μ-loop
     loop-holds
+    cast-loop
     cast-rule
     mul-rule
     element-copy-out-rule
