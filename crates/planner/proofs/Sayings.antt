@@ -1,0 +1,42 @@
+-- A walk's end as a call says it, and a tidied position.
+use mathlib.Core.Path.{_≡_, refl, sym, ap, ap₂, _∙_}
+use mathlib.Core.List.{List, map}
+use Prim.Native.Nat.{ℕ, _≤_, _<_}
+use lib.ListN.{length, getD}
+use Rattle.sets.specs.Lists.{upto}
+use Rattle.sets.specs.Stored.{number, stored}
+use Rattle.sets.specs.declared.People.{People}
+use Rattle.sets.proofs.Records.{stored-number}
+use Rattle.cases.specs.Case.{mostSteps}
+use Rattle.cases.specs.Positions.{persons, zeroPerson}
+use Rattle.cases.specs.declared.Person.{Person}
+use Rattle.cases.specs.declared.Position.{Position}
+use Rattle.cases.proofs.Positions.{persons-length}
+use Rattle.words.specs.Part.{Filled}
+use Rattle.words.proofs.Parts.{fill-start, fill-step, fill-end}
+use Rattle.walks.specs.declared.Verdict.the-variants as walked
+use Rattle.walks.specs.Outcomes.{verdictOutcome}
+use Rattle.planner.specs.declared.PlanSays.the-variants as plan
+use Rattle.planner.specs.declared.PlanAnswer.{PlanAnswer}
+use Rattle.planner.specs.declared.VerdictAnswer.the-variants as verdict
+use Rattle.planner.specs.declared.AwayAnswer.the-variants as away
+use Rattle.planner.specs.Answers.{personOf, positionOf, verdictAnswer, awayAnswer}
+
+-- a set that is shown is the set that was stored
+pub verdict-shown : (l c : ℕ) (s : People) → verdict.No s c ≡ verdictAnswer (verdictOutcome l (walked.No s c))
+verdict-shown l c s = ap (λ x. verdict.No x c) (sym (stored-number s))
+
+pub away-shown : (l c : ℕ) (s : People) → away.People s c ≡ awayAnswer (verdictOutcome l (walked.No s c))
+away-shown l c s = ap (λ x. away.People x c) (sym (stored-number s))
+
+pub plan-shown : (n : ℕ) {p q : Position} → p ≡ q → _≡_ {A = PlanAnswer} (record { says = plan.Yes n; plan = p }) (record { says = plan.Yes n; plan = q })
+plan-shown n e = ap (λ r. record { says = plan.Yes n; plan = r }) e
+
+-- ---- a position with nothing behind its entries
+
+abbrev pub entryOf : Position → ℕ → Person
+entryOf p i = personOf (getD (persons p) i 0)
+
+pub tidied-is : (p : Position) (l : List Person) (i : ℕ) → Filled (entryOf p) mostSteps i l → mostSteps ≤ i → record { who = l; len = p .len } ≡ positionOf (persons p)
+unfolding positionOf
+tidied-is p l i f h = ap₂ (λ w n. record { who = w; len = n }) (fill-end (entryOf p) mostSteps f h) (sym (persons-length p))
