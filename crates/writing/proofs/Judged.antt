@@ -15,7 +15,6 @@ use Rattle.refusals.specs.Offsets.{totalOf}
 use Rattle.refusals.specs.CaseChecks.{caseChecks, judgedCase}
 use Rattle.refusals.proofs.Order.{good-refused, judged-append}
 use Rattle.layout.specs.Layout.{fileOf}
-use Rattle.writing.specs.declared.Written.{Written}
 use Rattle.writing.specs.declared.Written.the-variants.{Bytes, Refused}
 use Rattle.writing.specs.Writing.{roomCheck, writeChecks, judgedWrite, answerOf, writeAnswer, heldAfter, written}
 

@@ -1,0 +1,2 @@
+-- What is promised of writing and reading together.
+pub mod Trips

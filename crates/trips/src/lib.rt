@@ -1,0 +1,1 @@
+// Theorems about the calls that read, judge and write files (proofs/). There is no code here.
