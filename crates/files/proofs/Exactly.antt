@@ -2,7 +2,7 @@
 use mathlib.Core.Path.{_≡_, refl}
 use mathlib.Core.Logic.{_⊎_, inl, inr, _↔_}
 use mathlib.Core.Bool.{true}
-use mathlib.Core.List.{List, _++_}
+use mathlib.Core.List.{List}
 use Prim.Native.Nat.{ℕ}
 use Rattle.cases.specs.declared.Counts.{Counts}
 use Rattle.refusals.specs.Offsets.{peopleAt, stepsAt, tablesAt, rulesAt, totalOf}
@@ -27,7 +27,8 @@ misplaced-is f n = (λ e. to (sums .0 e), λ k. sums .1 (from k))
   where
     sums : (misplaced f n ≡ true) ↔ Elsewhere f n
     sums =
-        either-is _ _ (differs-is _ _) (either-is _ _ (differs-is _ _) (either-is _ _ (differs-is _ _) (either-is _ _ (differs-is _ _) (differs-is _ _))))
+        either-is _ _ (differs-is _ _)
+        (either-is _ _ (differs-is _ _) (either-is _ _ (differs-is _ _) (either-is _ _ (differs-is _ _) (differs-is _ _))))
 
     to : Elsewhere f n → Misplaced f n
     to (inl h) = peopleElsewhere h

@@ -1,20 +1,19 @@
 -- What a right header comes to: the file is then judged as the case that it holds.
 use mathlib.Core.Path.{_≡_, refl, sym, ap, _∙_}
 use mathlib.Core.Bool.{Bool, true, false, not, _||_, true≢false}
-use mathlib.Core.List.{List, [], _∷_, _++_}
+use mathlib.Core.List.{List, _∷_}
 use mathlib.Core.Logic.{inl, inr}
-use mathlib.Core.Option.{none, some}
+use mathlib.Core.Option.{none}
 use Prim.Native.Nat.{ℕ, _≤_}
 use borrow.Author.Tests.{ltb-false, eqb-true, not-false}
-use lib.Dec.{ltb, eqb}
+use lib.Dec.{eqb}
 use lib.ListN.{length}
-use Rattle.sets.specs.Lists.{onlyIf}
 use Rattle.sets.proofs.Lists.{onlyIf-none}
 use Rattle.cases.specs.declared.Counts.{Counts}
 use Rattle.refusals.specs.declared.Refusal.{Refusal}
 use Rattle.refusals.specs.declared.Judged.{Judged}
 use Rattle.refusals.specs.declared.Judged.the-variants.{Good, Refused}
-use Rattle.refusals.specs.Refusals.{Check, refusal, judgedBy, onlyCheck, orElse}
+use Rattle.refusals.specs.Refusals.{judgedBy, onlyCheck, orElse}
 use Rattle.refusals.specs.Offsets.{peopleAt, stepsAt, tablesAt, rulesAt, totalOf}
 use Rattle.refusals.specs.CaseChecks.{tooMany, countsCheck, entryChecks, caseChecks, judgedCase}
 use Rattle.refusals.proofs.Order.{judged-append, good-refused, good-checks}

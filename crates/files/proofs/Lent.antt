@@ -1,6 +1,5 @@
 -- A part of a slice that is lent from place a on stands a bytes further.
 use mathlib.Core.Path.{_≡_, ap, _∙_}
-use mathlib.Core.List.{List}
 use Prim.Native.Nat.{ℕ, _+_}
 use native.Mathlib.Nat.{add-comm}
 use Rattle.words.specs.Part.{stretch}

@@ -1,8 +1,7 @@
 -- A refused file gives the empty case and empty parts, and nothing else; a good one its case, with zero above its counts, and its own bytes.
 use mathlib.Core.Path.{_≡_, refl, sym, ap, _∙_}
-use mathlib.Core.List.{List, []}
+use mathlib.Core.List.{List}
 use Prim.Native.Nat.{ℕ}
-use Rattle.cases.specs.declared.Case.{Case}
 use Rattle.cases.specs.Case.{emptyCase, zeroed}
 use Rattle.refusals.specs.declared.Refusal.{Refusal}
 use Rattle.refusals.specs.declared.Judged.{Judged}

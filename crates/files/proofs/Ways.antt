@@ -1,5 +1,5 @@
 -- The ways through `read` and `good_part`, over plain values: what each comes to.
-use mathlib.Core.Path.{_≡_, refl, sym, ap, _∙_}
+use mathlib.Core.Path.{_≡_, sym, ap, _∙_}
 use mathlib.Core.List.{List}
 use Prim.Native.Nat.{ℕ, _≤_}
 use native.Mathlib.Omega.{arith}
@@ -34,7 +34,8 @@ module _ (f : List ℕ) where
   read-head {r = r} p q w = refused-read r (wrong-header f r (sym p ∙ q)) q w
 
   -- the header is right, and the case is judged
-  module _ {h j : Judged} {n : Counts} {c : Case} (p : h ≡ judgedBy (headChecks f)) (q : h ≡ Good) (k : n ≡ countsOf f) (e : c ≡ caseAt f n) (g : j ≡ judgedCase c) where
+  module _ {h j : Judged} {n : Counts} {c : Case}
+      (p : h ≡ judgedBy (headChecks f)) (q : h ≡ Good) (k : n ≡ countsOf f) (e : c ≡ caseAt f n) (g : j ≡ judgedCase c) where
     held : c ≡ caseOf f
     held = e ∙ ap (caseAt f) k
 

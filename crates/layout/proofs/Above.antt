@@ -1,18 +1,17 @@
 -- A file holds nothing above its counts: the case that is read has zero there.
 use Prim.Native.Nat.{ℕ, _+_, _-_, _*_, _≤_, _<_}
-use mathlib.Core.Path.{_≡_, refl, sym, ap, ap₂, _∙_}
+use mathlib.Core.Path.{_≡_, refl, sym}
 use mathlib.Core.List.{List, map}
 use native.Mathlib.Decide.{decLt}
 use native.Mathlib.Omega.{arith}
 use borrow.Author.Tests.{lt-ltb, le-ltb}
-use lib.ListN.{length, getD, take, drop, length-take, List·getD-eq-default}
+use lib.ListN.{length, drop, length-take, List·getD-eq-default}
 use Rattle.sets.specs.Lists.{upto}
-use Rattle.sets.specs.Stored.{stored, noPeople}
+use Rattle.sets.specs.Stored.{noPeople}
 use Rattle.cases.specs.declared.Counts.{Counts}
-use Rattle.cases.specs.declared.Case.{Case}
 use Rattle.cases.specs.Case.{entry, zeroed, zeroStep, zeroRule, mostPeople, mostSteps, mostTables, mostRules}
 use Rattle.refusals.specs.Offsets.{rowsIn, stepsAt, tablesAt, rulesAt, totalOf}
-use Rattle.words.specs.Word.{byte, word, long}
+use Rattle.words.specs.Word.{byte}
 use Rattle.words.specs.Part.{table, stretch}
 use Rattle.words.proofs.Parts.{getD-table, table-cong}
 use Rattle.layout.specs.declared.Part.the-variants.{People, Steps, Tables, Rules}
@@ -34,6 +33,12 @@ zero-above z n m g h = table-cong (entry z n (table g m)) g m each
 past-end : (part : List ℕ) (i : ℕ) → length part ≤ i → byte part i ≡ 0
 past-end part i h = List·getD-eq-default part 0 h
 
+-- and so are the four bytes of an entry that starts there
+four-past : (part : List ℕ) (k : ℕ) → length part ≤ k
+    → (byte part k ≡ 0) × (byte part (k + 1) ≡ 0) × (byte part (k + 2) ≡ 0) × (byte part (k + 3) ≡ 0)
+four-past part k h =
+    (past-end part k h, past-end part (k + 1) (omega arith), past-end part (k + 2) (omega arith), past-end part (k + 3) (omega arith))
+
 module _ (f : List ℕ) (n : Counts) where
   stretch-long : (a b : ℕ) → length (stretch f a b) ≤ b - a
   stretch-long a b = omega (arith, length-take (b - a) (drop a f))
@@ -46,21 +51,21 @@ module _ (f : List ℕ) (n : Counts) where
 
   step-above : (i : ℕ) → n .steps ≤ i → stepIn (stretchOf f n Steps) i ≡ zeroStep
   step-above i h =
-      let p = stretchOf f n Steps in
       let l = stretch-long (stepsAt n) (tablesAt n) in
-      rw (past-end p (4 * i) (omega arith), past-end p (4 * i + 1) (omega arith), past-end p (4 * i + 2) (omega arith), past-end p (4 * i + 3) (omega arith)) refl
+      let z = four-past (stretchOf f n Steps) (4 * i) (omega arith) in
+      rw (z .0, z .1, z .2, z .3) refl
 
   row-above : (i : ℕ) → rowsIn n ≤ i → rowIn (stretchOf f n Tables) i ≡ noPeople
   row-above i h =
-      let p = stretchOf f n Tables in
       let l = stretch-long (tablesAt n) (rulesAt n) in
-      rw (past-end p (4 * i) (omega arith), past-end p (4 * i + 1) (omega arith), past-end p (4 * i + 2) (omega arith), past-end p (4 * i + 3) (omega arith)) refl
+      let z = four-past (stretchOf f n Tables) (4 * i) (omega arith) in
+      rw (z .0, z .1, z .2, z .3) refl
 
   rule-above : (i : ℕ) → n .rules ≤ i → ruleIn (stretchOf f n Rules) i ≡ zeroRule
   rule-above i h =
-      let p = stretchOf f n Rules in
       let l = stretch-long (rulesAt n) (totalOf n) in
-      rw (past-end p (4 * i) (omega arith), past-end p (4 * i + 1) (omega arith), past-end p (4 * i + 2) (omega arith), past-end p (4 * i + 3) (omega arith)) refl
+      let z = four-past (stretchOf f n Rules) (4 * i) (omega arith) in
+      rw (z .0, z .1, z .2, z .3) refl
 
   -- The case that a file holds has zero above its counts.
   pub held-zeroed : zeroed (caseAt f n) ≡ caseAt f n

@@ -44,7 +44,8 @@ module _ {A : Type 0} where
   table-more f i a h e = rw (add-one, take-suc-set, table-suc) (rw e refl)
 
   -- a loop that writes entries: the stores of one entry more
-  run-more : (e : ℕ → List A) (i k : ℕ) (l : List A) → k + length (e i) ≤ length l → take k l ≡ run e i → take (k + length (e i)) (sets l k (e i)) ≡ run e (i + 1)
+  run-more : (e : ℕ → List A) (i k : ℕ) (l : List A) → k + length (e i) ≤ length l → take k l ≡ run e i
+      → take (k + length (e i)) (sets l k (e i)) ≡ run e (i + 1)
   unfolding run
   run-more e i k l h q =
       rw (add-one, sets-eq (e i) l k h, ← q)
@@ -73,7 +74,9 @@ module _ {A : Type 0} where
         ap (λ x. getD (run e n ++ e n) x d) (omega (arith, length-run n, ap (λ x. w * x) q))
         ∙ getD-append-add (run e n) (e n) j d
         ∙ ap (λ x. getD (e x) j d) (sym q))
-        (λ l. List·getD-append (run e n) (e n) d (w * i + j) (omega (arith, length-run n, mul-le-mul-left {m = suc i} {n = n} w l, mul-suc w i)) ∙ getD-run n i j d l g)
+        (λ l.
+        let inside : w * i + j < length (run e n) = omega (arith, length-run n, mul-le-mul-left {m = suc i} {n = n} w l, mul-suc w i) in
+        List·getD-append (run e n) (e n) d (w * i + j) inside ∙ getD-run n i j d l g)
         (eq-or-lt-of-le {n = i} {m = n} (omega arith))
 
     -- a list that is cut into such entries is their run

@@ -10,7 +10,6 @@ use changed::with_row;
 use changed::with_rule;
 use changed::with_spare;
 use changed::with_step;
-use samples::Made;
 use samples::campfire;
 use samples::largest;
 use samples::related;

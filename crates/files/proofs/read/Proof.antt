@@ -41,15 +41,15 @@ returns-2 : tie.Need-returns-2
 returns-2 c =
     let d = c .before .before .before in
     let g = d .before .before .before in
-    read-entries _ (g .before .before .judge-header .ensures) (g .enum-told .given .1) (d .before .before .counts .ensures) (d .before .case-at .ensures)
-    (d .judge-case .ensures) (c .before .enum-told4 .given .1) (c .refused2 .ensures)
+    read-entries _ (g .before .before .judge-header .ensures) (g .enum-told .given .1) (d .before .before .counts .ensures)
+    (d .before .case-at .ensures) (d .judge-case .ensures) (c .before .enum-told4 .given .1) (c .refused2 .ensures)
 
 returns-3 : tie.Need-returns-3
 returns-3 c =
     let d = c .before .before in
     let g = d .before .before .before in
-    read-held _ (g .before .before .judge-header .ensures) (g .enum-told .given .1) (d .before .before .counts .ensures) (d .before .case-at .ensures)
-    (d .judge-case .ensures) (c .enum-told3 .given .1)
+    read-held _ (g .before .before .judge-header .ensures) (g .enum-told .given .1) (d .before .before .counts .ensures)
+    (d .before .case-at .ensures) (d .judge-case .ensures) (c .enum-told3 .given .1)
 
 pub read-spec : {M : Type 1} → statement M
 read-spec =

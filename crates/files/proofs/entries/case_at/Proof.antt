@@ -70,7 +70,16 @@ returns c =
     let steps = rows .before .before in
     let people = steps .before .before in
     let whole = people .before .before in
-    simp (c .read-rules .ensures, rows .read-rows .ensures, steps .read-steps .ensures, people .read-people .ensures, whole .total .ensures, whole .before .rules-at .ensures .0, whole .before .before .tables-at .ensures .0, whole .before .before .before .steps-at .ensures .0)
+    simp (
+      c .read-rules .ensures,
+      rows .read-rows .ensures,
+      steps .read-steps .ensures,
+      people .read-people .ensures,
+      whole .total .ensures,
+      whole .before .rules-at .ensures .0,
+      whole .before .before .tables-at .ensures .0,
+      whole .before .before .before .steps-at .ensures .0,
+    )
 
 pub case-at-spec : {M : Type 1} → statement M
 case-at-spec =

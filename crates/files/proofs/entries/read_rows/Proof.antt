@@ -42,7 +42,9 @@ loop-less : tie.Need-loop-less Inv-loop μ-loop
 loop-less c = omega arith
 
 loop-again : tie.Need-loop-again Inv-loop μ-loop
-loop-again c = fill-step _ _ (c .before .before .before .loop .inv) (c .before .before .loop-test .taken) (c .from-word .ensures ∙ ap stored (c .before .long-at .ensures))
+loop-again c =
+    let d = c .before .before in
+    fill-step _ _ (d .before .loop .inv) (d .loop-test .taken) (c .from-word .ensures ∙ ap stored (c .before .long-at .ensures))
 
 returns : tie.Need-returns Inv-loop μ-loop
 returns c = fill-end _ _ (c .before .loop .inv) (c .loop-test .left)

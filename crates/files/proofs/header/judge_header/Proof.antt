@@ -1,11 +1,10 @@
 -- Each test that was passed makes its check none; the first that is met is the refusal.
 use mathlib.Core.Path.{_≡_, refl, sym, ap, _∙_}
-use mathlib.Core.Bool.{true, false, not}
+use mathlib.Core.Bool.{false, not}
 use borrow.Author.Needs.{needs}
 use borrow.Author.Tests.{lt-ltb, le-ltb, eq-eqb, ne-eqb}
 use lib.Dec.{ltb, eqb}
 use lib.ListN.{length}
-use Rattle.cases.specs.declared.Counts.{Counts}
 use Rattle.refusals.specs.Refusals.{judgedBy}
 use Rattle.refusals.specs.CaseChecks.{tooMany}
 use Rattle.words.specs.Word.{word}
@@ -26,7 +25,9 @@ past3 c = ap not (eq-eqb _ _ (sym (c .before .word-at2 .ensures) ∙ c .if3 .lef
 past4 : (c : tie.Else4) → tooMany (countsOf (c .before .before .before .before .before .before .before .before .before .args .file .now)) ≡ false
 past4 c = ap tooMany (sym (c .before .before .counts .ensures)) ∙ sym (c .before .too-many .ensures) ∙ c .if4 .left
 
-past5 : (c : tie.Else5) → let f = c .before .before .before .before .before .before .before .before .before .before .before .args .file .now in misplaced f (countsOf f) ≡ false
+past5 : (c : tie.Else5)
+    → let f = c .before .before .before .before .before .before .before .before .before .before .before .args .file .now in
+    misplaced f (countsOf f) ≡ false
 past5 c = ap (misplaced _) (sym (c .before .before .before .before .counts .ensures)) ∙ sym (c .before .is-misplaced .ensures) ∙ c .if5 .left
 
 refused-whole-requires : tie.Need-refused-whole-requires
@@ -58,7 +59,8 @@ returns-3 : tie.Need-returns-3
 unfolding judgedBy headChecks
 returns-3 c =
     let d = c .before .before in
-    rw (c .refused-whole3 .ensures, past1 (d .before .before .before), past2 (d .before), ← d .word-at2 .ensures, ne-eqb _ _ (c .before .if3 .taken)) refl
+    let e2 = d .before in
+    rw (c .refused-whole3 .ensures, past1 (e2 .before .before), past2 e2, ← d .word-at2 .ensures, ne-eqb _ _ (c .before .if3 .taken)) refl
 
 counts-requires : tie.Need-counts-requires
 counts-requires c κs = search needs
