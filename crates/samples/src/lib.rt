@@ -7,7 +7,7 @@ pub struct Made {
 }
 
 // The numbers of a header after the edition: five counts, four offsets, and the total.
-pub struct Head {
+struct Head {
     pub people: u16,
     pub steps: u16,
     pub roles: u16,
@@ -91,8 +91,24 @@ pub fn largest() -> Made {
         .each(891, 32, 1)
 }
 
+// No entries of any kind.
+pub fn nobody() -> Made {
+    empty(Head {
+        people: 0,
+        steps: 0,
+        roles: 0,
+        tables: 0,
+        rules: 0,
+        people_at: 24,
+        steps_at: 24,
+        tables_at: 24,
+        rules_at: 24,
+        total: 24,
+    })
+}
+
 // A header, with zeros behind it up to its total.
-pub fn empty(h: Head) -> Made {
+fn empty(h: Head) -> Made {
     let file = Made {
         data: [0; 1100],
         len: h.total as usize,
