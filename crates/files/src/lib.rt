@@ -20,9 +20,9 @@ ghost use Rattle.layout.specs.Layout.{startOf, endOf};
 ghost use Rattle.files.specs.Checks.{judgedFile};
 ghost use Rattle.files.specs.Reading.{readOf, refusedRead};
 ghost use Rattle.files.specs.Parts.{seen, between, nothingOf, partOf};
-pub use entries::case_at;
-pub use header::counts;
-pub use header::judge_header;
+use entries::case_at;
+use header::counts;
+use header::judge_header;
 
 // What reading a file gives: how it is judged, and the case that it holds, which is the empty case where it is refused.
 pub struct FileRead {
@@ -107,7 +107,7 @@ fn good_part(file: &[u8], part: Part) -> &[u8]
 }
 
 // A part, by counts that the file has room for.
-pub fn part_at(file: &[u8], n: Counts, part: Part) -> &[u8]
+fn part_at(file: &[u8], n: Counts, part: Part) -> &[u8]
     requires { ⌜ totalOf n ≤ length (now file) ⌝ }
     ensures { λ r. ⌜ seen r ≡ between (seen (file .entry)) (startOf n part) (endOf n part) ⌝ }
 {
@@ -117,7 +117,7 @@ pub fn part_at(file: &[u8], n: Counts, part: Part) -> &[u8]
 }
 
 // An empty part.
-pub fn no_part(file: &[u8]) -> &[u8]
+fn no_part(file: &[u8]) -> &[u8]
     ensures { λ r. ⌜ seen r ≡ nothingOf (seen (file .entry)) ⌝ }
 {
     &file[..0]
