@@ -1,0 +1,5 @@
+-- The promises, in the order of the tender's demands.
+pub mod Telling
+pub mod Demand1
+pub mod Demand2
+pub mod Demand3
