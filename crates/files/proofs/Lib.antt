@@ -4,4 +4,3 @@ pub mod Headers
 pub mod Exactly
 pub mod Nothing
 pub mod Ways
-pub mod OneOutcome

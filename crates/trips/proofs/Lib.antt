@@ -6,4 +6,3 @@ pub mod Again
 pub mod Good
 pub mod Refused
 pub mod Trips
-pub mod OneOutcome

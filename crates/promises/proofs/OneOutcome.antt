@@ -1,0 +1,395 @@
+-- For every value of its arguments each public function has one outcome: two that its contract permits are the same. The lines stand in the order of the
+-- crates, each about the contract's own `Post`. Of a lent buffer that is what it holds at exit, of a returned part where it stands and its bytes.
+-- (`plan_walk` is the one exception: docs/CONTRACTS.md says why.)
+use mathlib.Core.Path.{_≡_, refl, sym, ap, _∙_}
+use mathlib.Core.Option.{Option, none, some}
+use Prim.Native.Nat.{ℕ}
+use denote.Ref.{now}
+use Rattle.sets.specs.Stored.{number, stored, nextNumber, lowestNumber}
+use Rattle.sets.specs.declared.People.{People}
+use Rattle.sets.specs.declared.Next.{Next}
+use Rattle.sets.specs.declared.Next.the-variants as next
+use Rattle.sets.specs.declared.Lowest.{Lowest}
+use Rattle.sets.specs.declared.Lowest.the-variants as lowest
+use Rattle.sets.proofs.Records.{stored-number, number-injective}
+use Rattle.games.specs.Limit.{Ended, limit, ended, Answer}
+use Rattle.cases.specs.declared.Person.{Person}
+use Rattle.walks.specs.declared.Verdict.{Verdict}
+use Rattle.walks.specs.declared.Verdict.the-variants as verdict
+use Rattle.walks.specs.declared.Advised.{Advised}
+use Rattle.walks.specs.declared.Advised.the-variants as advised
+use Rattle.walks.specs.Outcomes.{verdictOutcome, advisedOutcome}
+use Rattle.files.specs.Parts.{seen}
+use Rattle.sets.proofs.People.none.Reads as people-none-reads
+use Rattle.sets.proofs.People.everybody.Reads as people-everybody-reads
+use Rattle.sets.proofs.People.from_word.Reads as people-from-word-reads
+use Rattle.sets.proofs.People.word.Reads as people-word-reads
+use Rattle.sets.proofs.People.at.Reads as people-at-reads
+use Rattle.sets.proofs.People.has.Reads as people-has-reads
+use Rattle.sets.proofs.People.with.Reads as people-with-reads
+use Rattle.sets.proofs.People.without.Reads as people-without-reads
+use Rattle.sets.proofs.People.common.Reads as people-common-reads
+use Rattle.sets.proofs.People.joined.Reads as people-joined-reads
+use Rattle.sets.proofs.People.difference.Reads as people-difference-reads
+use Rattle.sets.proofs.People.size.Reads as people-size-reads
+use Rattle.sets.proofs.People.within.Reads as people-within-reads
+use Rattle.sets.proofs.People.meets.Reads as people-meets-reads
+use Rattle.sets.proofs.People.past.Reads as people-past-reads
+use Rattle.sets.proofs.People.lowest.Reads as people-lowest-reads
+use Rattle.sets.proofs.People.before.Reads as people-before-reads
+use Rattle.sets.proofs.People.after.Reads as people-after-reads
+use Rattle.sets.proofs.People.next.Reads as people-next-reads
+use Rattle.sets.proofs.holds.Reads as small-holds-reads
+use Rattle.sets.proofs.share.Reads as small-share-reads
+use Rattle.sets.proofs.size.Reads as small-size-reads
+use Rattle.sets.proofs.past.Reads as small-past-reads
+use Rattle.sets.proofs.lowest_in.Reads as small-lowest-in-reads
+use Rattle.sets.proofs.with.Reads as small-with-reads
+use Rattle.sets.proofs.without.Reads as small-without-reads
+use Rattle.cases.proofs.Position.start.Reads as position-start-reads
+use Rattle.cases.proofs.Position.person.Reads as position-person-reads
+use Rattle.cases.proofs.Position.placed.Reads as position-placed-reads
+use Rattle.cases.proofs.Case.empty.Reads as case-empty-reads
+use Rattle.cases.proofs.everybody_if.Reads as everybody-if-reads
+use Rattle.words.proofs.byte_at.Reads as byte-at-reads
+use Rattle.words.proofs.word_at.Reads as word-at-reads
+use Rattle.words.proofs.long_at.Reads as long-at-reads
+use Rattle.words.proofs.both.Reads as both-reads
+use Rattle.words.proofs.either.Reads as either-reads
+use Rattle.words.proofs.put_word.Reads as put-word-reads
+use Rattle.words.proofs.put_long.Reads as put-long-reads
+use Rattle.layout.proofs.steps_at.Reads as steps-at-reads
+use Rattle.layout.proofs.tables_at.Reads as tables-at-reads
+use Rattle.layout.proofs.rules_at.Reads as rules-at-reads
+use Rattle.layout.proofs.rows.Reads as rows-reads
+use Rattle.layout.proofs.total.Reads as total-reads
+use Rattle.layout.proofs.start.Reads as part-start-reads
+use Rattle.layout.proofs.end.Reads as part-end-reads
+use Rattle.refusals.proofs.Judged.or_else.Reads as or-else-reads
+use Rattle.refusals.proofs.Judged.refused_if.Reads as refused-if-reads
+use Rattle.judging.proofs.judge_case.Reads as judge-case-reads
+use Rattle.judging.proofs.too_many.Reads as too-many-reads
+use Rattle.asking.proofs.judge_number.Reads as judge-number-reads
+use Rattle.asking.proofs.judge_position.Reads as judge-position-reads
+use Rattle.asking.proofs.judge_absent.Reads as judge-absent-reads
+use Rattle.boards.proofs.allowed.Reads as allowed-reads
+use Rattle.boards.proofs.fits.Reads as fits-reads
+use Rattle.laying.proofs.lay_out.Reads as lay-out-reads
+use Rattle.walks.proofs.dynamic_walk.Reads as dynamic-walk-reads
+use Rattle.walks.proofs.away_turn.Reads as away-turn-reads
+use Rattle.walks.proofs.static_walk.Reads as static-walk-reads
+use Rattle.walks.proofs.advice_walk.Reads as advice-walk-reads
+use Rattle.files.proofs.judge.Reads as judge-reads
+use Rattle.files.proofs.read.Reads as read-reads
+use Rattle.files.proofs.people_part.Reads as people-part-reads
+use Rattle.files.proofs.steps_part.Reads as steps-part-reads
+use Rattle.files.proofs.tables_part.Reads as tables-part-reads
+use Rattle.files.proofs.rules_part.Reads as rules-part-reads
+use Rattle.files.proofs.part_at.Reads as part-at-reads
+use Rattle.files.proofs.no_part.Reads as no-part-reads
+use Rattle.writing.proofs.write.Reads as write-reads
+use Rattle.planner.proofs.plan.Reads as plan-reads
+use Rattle.planner.proofs.static_verdict.Reads as static-verdict-reads
+use Rattle.planner.proofs.decremental_verdict.Reads as decremental-verdict-reads
+use Rattle.planner.proofs.dynamic_verdict.Reads as dynamic-verdict-reads
+use Rattle.planner.proofs.advice.Reads as advice-reads
+use Rattle.planner.proofs.away.Reads as away-reads
+
+-- ---- What an answer says fixes it
+
+abbrev lowest-back : Option ℕ → Lowest
+lowest-back none = lowest.Nobody
+lowest-back (some v) = lowest.Person v
+
+lowest-same : (r s : Lowest) → lowestNumber r ≡ lowestNumber s → r ≡ s
+lowest-same r s e = sym (back r) ∙ ap lowest-back e ∙ back s
+  where
+    back : (x : Lowest) → lowest-back (lowestNumber x) ≡ x
+    back lowest.Nobody = refl
+    back (lowest.Person v) = refl
+
+abbrev next-back : Option ℕ → Next
+next-back none = next.Nothing
+next-back (some s) = next.Set (stored s)
+
+next-same : (r s : Next) → nextNumber r ≡ nextNumber s → r ≡ s
+unfolding nextNumber
+next-same r s e = sym (back r) ∙ ap next-back e ∙ back s
+  where
+    back : (x : Next) → next-back (nextNumber x) ≡ x
+    back next.Nothing = refl
+    back (next.Set p) = ap next.Set (stored-number p)
+
+abbrev verdict-back : Ended (Option ℕ) → ℕ → Verdict
+verdict-back limit n = verdict.Limit
+verdict-back (ended none) n = verdict.Yes n
+verdict-back (ended (some A)) n = verdict.No (stored A) n
+
+verdict-same : (l : ℕ) (r s : Verdict) → verdictOutcome l r ≡ verdictOutcome l s → r ≡ s
+verdict-same l r s e = sym (back r) ∙ ap (λ (a : Answer (Option ℕ)). verdict-back (a .out) (a .count)) e ∙ back s
+  where
+    back : (x : Verdict) → verdict-back (verdictOutcome l x .out) (verdictOutcome l x .count) ≡ x
+    back verdict.Limit = refl
+    back (verdict.Yes n) = refl
+    back (verdict.No p n) = ap (λ q. verdict.No q n) (stored-number p)
+
+abbrev advised-back : Ended (Option ℕ) → ℕ → Advised
+advised-back limit n = advised.Limit
+advised-back (ended none) n = advised.Nobody n
+advised-back (ended (some u)) n = advised.Person (record { 0 = u }) n
+
+advised-same : (l : ℕ) (r s : Advised) → advisedOutcome l r ≡ advisedOutcome l s → r ≡ s
+advised-same l r s e = sym (back r) ∙ ap (λ (a : Answer (Option ℕ)). advised-back (a .out) (a .count)) e ∙ back s
+  where
+    back : (x : Advised) → advised-back (advisedOutcome l x .out) (advisedOutcome l x .count) ≡ x
+    back advised.Limit = refl
+    back (advised.Nobody n) = refl
+    back (advised.Person v n) = refl
+
+-- ---- `sets`: Sets
+
+pub people-none-one : (κs : _) (args : _) (r s : _) (x y : _) → people-none-reads.Post κs args r x → people-none-reads.Post κs args s y → r ≡ s
+people-none-one κs args r s x y p q = p ∙ sym q
+
+pub people-everybody-one : (κs : _) (args : _) (r s : _) (x y : _) → people-everybody-reads.Post κs args r x → people-everybody-reads.Post κs args s y → r ≡ s
+people-everybody-one κs args r s x y p q = number-injective r s (p ∙ sym q)
+
+pub people-from-word-one : (κs : _) (args : _) (r s : _) (x y : _) → people-from-word-reads.Post κs args r x → people-from-word-reads.Post κs args s y → r ≡ s
+people-from-word-one κs args r s x y p q = p ∙ sym q
+
+pub people-word-one : (κs : _) (args : _) (r s : _) (x y : _) → people-word-reads.Post κs args r x → people-word-reads.Post κs args s y → r ≡ s
+people-word-one κs args r s x y p q = p ∙ sym q
+
+pub people-at-one : (κs : _) (args : _) (r s : _) (x y : _) → people-at-reads.Post κs args r x → people-at-reads.Post κs args s y → r ≡ s
+people-at-one κs args r s x y p q = number-injective r s (p ∙ sym q)
+
+pub people-has-one : (κs : _) (args : _) (r s : _) (x y : _) → people-has-reads.Post κs args r x → people-has-reads.Post κs args s y → r ≡ s
+people-has-one κs args r s x y p q = p ∙ sym q
+
+pub people-with-one : (κs : _) (args : _) (r s : _) (x y : _) → people-with-reads.Post κs args r x → people-with-reads.Post κs args s y → r ≡ s
+people-with-one κs args r s x y p q = number-injective r s (p ∙ sym q)
+
+pub people-without-one : (κs : _) (args : _) (r s : _) (x y : _) → people-without-reads.Post κs args r x → people-without-reads.Post κs args s y → r ≡ s
+people-without-one κs args r s x y p q = number-injective r s (p ∙ sym q)
+
+pub people-common-one : (κs : _) (args : _) (r s : _) (x y : _) → people-common-reads.Post κs args r x → people-common-reads.Post κs args s y → r ≡ s
+people-common-one κs args r s x y p q = number-injective r s (p ∙ sym q)
+
+pub people-joined-one : (κs : _) (args : _) (r s : _) (x y : _) → people-joined-reads.Post κs args r x → people-joined-reads.Post κs args s y → r ≡ s
+people-joined-one κs args r s x y p q = number-injective r s (p ∙ sym q)
+
+pub people-difference-one : (κs : _) (args : _) (r s : _) (x y : _) → people-difference-reads.Post κs args r x → people-difference-reads.Post κs args s y → r ≡ s
+people-difference-one κs args r s x y p q = number-injective r s (p ∙ sym q)
+
+pub people-size-one : (κs : _) (args : _) (r s : _) (x y : _) → people-size-reads.Post κs args r x → people-size-reads.Post κs args s y → r ≡ s
+people-size-one κs args r s x y p q = p ∙ sym q
+
+pub people-within-one : (κs : _) (args : _) (r s : _) (x y : _) → people-within-reads.Post κs args r x → people-within-reads.Post κs args s y → r ≡ s
+people-within-one κs args r s x y p q = p ∙ sym q
+
+pub people-meets-one : (κs : _) (args : _) (r s : _) (x y : _) → people-meets-reads.Post κs args r x → people-meets-reads.Post κs args s y → r ≡ s
+people-meets-one κs args r s x y p q = p ∙ sym q
+
+pub people-past-one : (κs : _) (args : _) (r s : _) (x y : _) → people-past-reads.Post κs args r x → people-past-reads.Post κs args s y → r ≡ s
+people-past-one κs args r s x y p q = p ∙ sym q
+
+pub people-lowest-one : (κs : _) (args : _) (r s : _) (x y : _) → people-lowest-reads.Post κs args r x → people-lowest-reads.Post κs args s y → r ≡ s
+people-lowest-one κs args r s x y p q = lowest-same r s (p ∙ sym q)
+
+pub people-before-one : (κs : _) (args : _) (r s : _) (x y : _) → people-before-reads.Post κs args r x → people-before-reads.Post κs args s y → r ≡ s
+people-before-one κs args r s x y p q = p ∙ sym q
+
+pub people-after-one : (κs : _) (args : _) (r s : _) (x y : _) → people-after-reads.Post κs args r x → people-after-reads.Post κs args s y → r ≡ s
+people-after-one κs args r s x y p q = number-injective r s (p ∙ sym q)
+
+pub people-next-one : (κs : _) (args : _) (r s : _) (x y : _) → people-next-reads.Post κs args r x → people-next-reads.Post κs args s y → r ≡ s
+people-next-one κs args r s x y p q = next-same r s (p ∙ sym q)
+
+pub small-holds-one : (κs : _) (args : _) (r s : _) (x y : _) → small-holds-reads.Post κs args r x → small-holds-reads.Post κs args s y → r ≡ s
+small-holds-one κs args r s x y p q = p ∙ sym q
+
+pub small-share-one : (κs : _) (args : _) (r s : _) (x y : _) → small-share-reads.Post κs args r x → small-share-reads.Post κs args s y → r ≡ s
+small-share-one κs args r s x y p q = p ∙ sym q
+
+pub small-size-one : (κs : _) (args : _) (r s : _) (x y : _) → small-size-reads.Post κs args r x → small-size-reads.Post κs args s y → r ≡ s
+small-size-one κs args r s x y p q = p ∙ sym q
+
+pub small-past-one : (κs : _) (args : _) (r s : _) (x y : _) → small-past-reads.Post κs args r x → small-past-reads.Post κs args s y → r ≡ s
+small-past-one κs args r s x y p q = p ∙ sym q
+
+pub small-lowest-in-one : (κs : _) (args : _) (r s : _) (x y : _) → small-lowest-in-reads.Post κs args r x → small-lowest-in-reads.Post κs args s y → r ≡ s
+small-lowest-in-one κs args r s x y p q = p ∙ sym q
+
+pub small-with-one : (κs : _) (args : _) (r s : _) (x y : _) → small-with-reads.Post κs args r x → small-with-reads.Post κs args s y → r ≡ s
+small-with-one κs args r s x y p q = p ∙ sym q
+
+pub small-without-one : (κs : _) (args : _) (r s : _) (x y : _) → small-without-reads.Post κs args r x → small-without-reads.Post κs args s y → r ≡ s
+small-without-one κs args r s x y p q = p ∙ sym q
+
+-- ---- `cases`: Cases and positions
+
+pub position-start-one : (κs : _) (args : _) (r s : _) (x y : _) → position-start-reads.Post κs args r x → position-start-reads.Post κs args s y → r ≡ s
+position-start-one κs args r s x y p q = p ∙ sym q
+
+pub position-person-one : (κs : _) (args : _) (r s : _) (x y : _) → position-person-reads.Post κs args r x → position-person-reads.Post κs args s y → r ≡ s
+position-person-one κs args r s x y p q = ap (λ (v : ℕ). record { 0 = v }) (p ∙ sym q)
+
+pub position-placed-one : (κs : _) (args : _) (r s : _) (x y : _) → position-placed-reads.Post κs args r x → position-placed-reads.Post κs args s y → r ≡ s
+position-placed-one κs args r s x y p q = p .0 ∙ sym (q .0)
+
+pub case-empty-one : (κs : _) (args : _) (r s : _) (x y : _) → case-empty-reads.Post κs args r x → case-empty-reads.Post κs args s y → r ≡ s
+case-empty-one κs args r s x y p q = p ∙ sym q
+
+pub everybody-if-one : (κs : _) (args : _) (r s : _) (x y : _) → everybody-if-reads.Post κs args r x → everybody-if-reads.Post κs args s y → r ≡ s
+everybody-if-one κs args r s x y p q = number-injective r s (p ∙ sym q)
+
+-- ---- `words`: Bytes
+
+pub byte-at-one : (κs : _) (args : _) (r s : _) (x y : _) → byte-at-reads.Post κs args r x → byte-at-reads.Post κs args s y → r ≡ s
+byte-at-one κs args r s x y p q = p ∙ sym q
+
+pub word-at-one : (κs : _) (args : _) (r s : _) (x y : _) → word-at-reads.Post κs args r x → word-at-reads.Post κs args s y → r ≡ s
+word-at-one κs args r s x y p q = p ∙ sym q
+
+pub long-at-one : (κs : _) (args : _) (r s : _) (x y : _) → long-at-reads.Post κs args r x → long-at-reads.Post κs args s y → r ≡ s
+long-at-one κs args r s x y p q = p ∙ sym q
+
+pub both-one : (κs : _) (args : _) (r s : _) (x y : _) → both-reads.Post κs args r x → both-reads.Post κs args s y → r ≡ s
+both-one κs args r s x y p q = p ∙ sym q
+
+pub either-one : (κs : _) (args : _) (r s : _) (x y : _) → either-reads.Post κs args r x → either-reads.Post κs args s y → r ≡ s
+either-one κs args r s x y p q = p ∙ sym q
+
+pub put-word-one : (κs : _) (args : _) (r s : _) (x y : _) → put-word-reads.Post κs args r x → put-word-reads.Post κs args s y → now (x .0) ≡ now (y .0)
+put-word-one κs args r s x y p q = p ∙ sym q
+
+pub put-long-one : (κs : _) (args : _) (r s : _) (x y : _) → put-long-reads.Post κs args r x → put-long-reads.Post κs args s y → now (x .0) ≡ now (y .0)
+put-long-one κs args r s x y p q = p ∙ sym q
+
+-- ---- `layout`: Where the parts of a file stand
+
+pub steps-at-one : (κs : _) (args : _) (r s : _) (x y : _) → steps-at-reads.Post κs args r x → steps-at-reads.Post κs args s y → r ≡ s
+steps-at-one κs args r s x y p q = p .0 ∙ sym (q .0)
+
+pub tables-at-one : (κs : _) (args : _) (r s : _) (x y : _) → tables-at-reads.Post κs args r x → tables-at-reads.Post κs args s y → r ≡ s
+tables-at-one κs args r s x y p q = p .0 ∙ sym (q .0)
+
+pub rules-at-one : (κs : _) (args : _) (r s : _) (x y : _) → rules-at-reads.Post κs args r x → rules-at-reads.Post κs args s y → r ≡ s
+rules-at-one κs args r s x y p q = p .0 ∙ sym (q .0)
+
+pub rows-one : (κs : _) (args : _) (r s : _) (x y : _) → rows-reads.Post κs args r x → rows-reads.Post κs args s y → r ≡ s
+rows-one κs args r s x y p q = p .0 ∙ sym (q .0)
+
+pub total-one : (κs : _) (args : _) (r s : _) (x y : _) → total-reads.Post κs args r x → total-reads.Post κs args s y → r ≡ s
+total-one κs args r s x y p q = p ∙ sym q
+
+pub part-start-one : (κs : _) (args : _) (r s : _) (x y : _) → part-start-reads.Post κs args r x → part-start-reads.Post κs args s y → r ≡ s
+part-start-one κs args r s x y p q = p ∙ sym q
+
+pub part-end-one : (κs : _) (args : _) (r s : _) (x y : _) → part-end-reads.Post κs args r x → part-end-reads.Post κs args s y → r ≡ s
+part-end-one κs args r s x y p q = p ∙ sym q
+
+-- ---- `refusals`: Judgements
+
+pub or-else-one : (κs : _) (args : _) (r s : _) (x y : _) → or-else-reads.Post κs args r x → or-else-reads.Post κs args s y → r ≡ s
+or-else-one κs args r s x y p q = p ∙ sym q
+
+pub refused-if-one : (κs : _) (args : _) (r s : _) (x y : _) → refused-if-reads.Post κs args r x → refused-if-reads.Post κs args s y → r ≡ s
+refused-if-one κs args r s x y p q = p ∙ sym q
+
+-- ---- `judging`: A case in memory
+
+pub judge-case-one : (κs : _) (args : _) (r s : _) (x y : _) → judge-case-reads.Post κs args r x → judge-case-reads.Post κs args s y → r ≡ s
+judge-case-one κs args r s x y p q = p ∙ sym q
+
+pub too-many-one : (κs : _) (args : _) (r s : _) (x y : _) → too-many-reads.Post κs args r x → too-many-reads.Post κs args s y → r ≡ s
+too-many-one κs args r s x y p q = p ∙ sym q
+
+-- ---- `asking`: What a question is asked with
+
+pub judge-number-one : (κs : _) (args : _) (r s : _) (x y : _) → judge-number-reads.Post κs args r x → judge-number-reads.Post κs args s y → r ≡ s
+judge-number-one κs args r s x y p q = p ∙ sym q
+
+pub judge-position-one : (κs : _) (args : _) (r s : _) (x y : _) → judge-position-reads.Post κs args r x → judge-position-reads.Post κs args s y → r ≡ s
+judge-position-one κs args r s x y p q = p ∙ sym q
+
+pub judge-absent-one : (κs : _) (args : _) (r s : _) (x y : _) → judge-absent-reads.Post κs args r x → judge-absent-reads.Post κs args s y → r ≡ s
+judge-absent-one κs args r s x y p q = p ∙ sym q
+
+-- ---- `boards`: The board
+
+pub allowed-one : (κs : _) (args : _) (r s : _) (x y : _) → allowed-reads.Post κs args r x → allowed-reads.Post κs args s y → r ≡ s
+allowed-one κs args r s x y p q = number-injective r s (p ∙ sym q)
+
+pub fits-one : (κs : _) (args : _) (r s : _) (x y : _) → fits-reads.Post κs args r x → fits-reads.Post κs args s y → r ≡ s
+fits-one κs args r s x y p q = number-injective r s (p ∙ sym q)
+
+-- ---- `laying`: A case laid out
+
+pub lay-out-one : (κs : _) (args : _) (r s : _) (x y : _) → lay-out-reads.Post κs args r x → lay-out-reads.Post κs args s y → r ≡ s
+lay-out-one κs args r s x y p q = p ∙ sym q
+
+-- ---- `walks`: The searches
+
+pub dynamic-walk-one : (κs : _) (args : _) (r s : _) (x y : _) → dynamic-walk-reads.Post κs args r x → dynamic-walk-reads.Post κs args s y → r ≡ s
+dynamic-walk-one κs args r s x y p q = verdict-same _ r s (p ∙ sym q)
+
+pub away-turn-one : (κs : _) (args : _) (r s : _) (x y : _) → away-turn-reads.Post κs args r x → away-turn-reads.Post κs args s y → r ≡ s
+away-turn-one κs args r s x y p q = verdict-same _ r s (p ∙ sym q)
+
+pub static-walk-one : (κs : _) (args : _) (r s : _) (x y : _) → static-walk-reads.Post κs args r x → static-walk-reads.Post κs args s y → r ≡ s
+static-walk-one κs args r s x y p q = verdict-same _ r s (p ∙ sym q)
+
+pub advice-walk-one : (κs : _) (args : _) (r s : _) (x y : _) → advice-walk-reads.Post κs args r x → advice-walk-reads.Post κs args s y → r ≡ s
+advice-walk-one κs args r s x y p q = advised-same _ r s (p ∙ sym q)
+
+-- ---- `files`: Files
+
+pub judge-one : (κs : _) (args : _) (r s : _) (x y : _) → judge-reads.Post κs args r x → judge-reads.Post κs args s y → r ≡ s
+judge-one κs args r s x y p q = p ∙ sym q
+
+pub read-one : (κs : _) (args : _) (r s : _) (x y : _) → read-reads.Post κs args r x → read-reads.Post κs args s y → r ≡ s
+read-one κs args r s x y p q = p ∙ sym q
+
+pub people-part-one : (κs : _) (args : _) (r s : _) (x y : _) → people-part-reads.Post κs args r x → people-part-reads.Post κs args s y → seen r ≡ seen s
+people-part-one κs args r s x y p q = p ∙ sym q
+
+pub steps-part-one : (κs : _) (args : _) (r s : _) (x y : _) → steps-part-reads.Post κs args r x → steps-part-reads.Post κs args s y → seen r ≡ seen s
+steps-part-one κs args r s x y p q = p ∙ sym q
+
+pub tables-part-one : (κs : _) (args : _) (r s : _) (x y : _) → tables-part-reads.Post κs args r x → tables-part-reads.Post κs args s y → seen r ≡ seen s
+tables-part-one κs args r s x y p q = p ∙ sym q
+
+pub rules-part-one : (κs : _) (args : _) (r s : _) (x y : _) → rules-part-reads.Post κs args r x → rules-part-reads.Post κs args s y → seen r ≡ seen s
+rules-part-one κs args r s x y p q = p ∙ sym q
+
+pub part-at-one : (κs : _) (args : _) (r s : _) (x y : _) → part-at-reads.Post κs args r x → part-at-reads.Post κs args s y → seen r ≡ seen s
+part-at-one κs args r s x y p q = p ∙ sym q
+
+pub no-part-one : (κs : _) (args : _) (r s : _) (x y : _) → no-part-reads.Post κs args r x → no-part-reads.Post κs args s y → seen r ≡ seen s
+no-part-one κs args r s x y p q = p ∙ sym q
+
+-- ---- `writing`: Writing
+
+pub write-one : (κs : _) (args : _) (r s : _) (x y : _) → write-reads.Post κs args r x → write-reads.Post κs args s y → (r ≡ s) × (now (x .1 .0) ≡ now (y .1 .0))
+write-one κs args r s x y p q = (p .0 ∙ sym (q .0), p .1 ∙ sym (q .1))
+
+-- ---- `planner`: The public calls
+
+pub plan-one : (κs : _) (args : _) (r s : _) (x y : _) → plan-reads.Post κs args r x → plan-reads.Post κs args s y → r ≡ s
+plan-one κs args r s x y p q = p ∙ sym q
+
+pub static-verdict-one : (κs : _) (args : _) (r s : _) (x y : _) → static-verdict-reads.Post κs args r x → static-verdict-reads.Post κs args s y → r ≡ s
+static-verdict-one κs args r s x y p q = p ∙ sym q
+
+pub decremental-verdict-one : (κs : _) (args : _) (r s : _) (x y : _) → decremental-verdict-reads.Post κs args r x → decremental-verdict-reads.Post κs args s y → r ≡ s
+decremental-verdict-one κs args r s x y p q = p ∙ sym q
+
+pub dynamic-verdict-one : (κs : _) (args : _) (r s : _) (x y : _) → dynamic-verdict-reads.Post κs args r x → dynamic-verdict-reads.Post κs args s y → r ≡ s
+dynamic-verdict-one κs args r s x y p q = p ∙ sym q
+
+pub advice-one : (κs : _) (args : _) (r s : _) (x y : _) → advice-reads.Post κs args r x → advice-reads.Post κs args s y → r ≡ s
+advice-one κs args r s x y p q = p ∙ sym q
+
+pub away-one : (κs : _) (args : _) (r s : _) (x y : _) → away-reads.Post κs args r x → away-reads.Post κs args s y → r ≡ s
+away-one κs args r s x y p q = p ∙ sym q
