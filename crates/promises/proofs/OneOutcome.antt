@@ -85,8 +85,6 @@ use Rattle.files.proofs.people_part.Reads as people-part-reads
 use Rattle.files.proofs.steps_part.Reads as steps-part-reads
 use Rattle.files.proofs.tables_part.Reads as tables-part-reads
 use Rattle.files.proofs.rules_part.Reads as rules-part-reads
-use Rattle.files.proofs.part_at.Reads as part-at-reads
-use Rattle.files.proofs.no_part.Reads as no-part-reads
 use Rattle.writing.proofs.write.Reads as write-reads
 use Rattle.planner.proofs.plan.Reads as plan-reads
 use Rattle.planner.proofs.static_verdict.Reads as static-verdict-reads
@@ -362,12 +360,6 @@ tables-part-one κs args r s x y p q = p ∙ sym q
 
 pub rules-part-one : (κs : _) (args : _) (r s : _) (x y : _) → rules-part-reads.Post κs args r x → rules-part-reads.Post κs args s y → seen r ≡ seen s
 rules-part-one κs args r s x y p q = p ∙ sym q
-
-pub part-at-one : (κs : _) (args : _) (r s : _) (x y : _) → part-at-reads.Post κs args r x → part-at-reads.Post κs args s y → seen r ≡ seen s
-part-at-one κs args r s x y p q = p ∙ sym q
-
-pub no-part-one : (κs : _) (args : _) (r s : _) (x y : _) → no-part-reads.Post κs args r x → no-part-reads.Post κs args s y → seen r ≡ seen s
-no-part-one κs args r s x y p q = p ∙ sym q
 
 -- ---- `writing`: Writing
 
