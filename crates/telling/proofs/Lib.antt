@@ -1,0 +1,5 @@
+pub mod Growing
+pub mod Lists
+pub mod Sayings
+pub mod Fits
+pub mod Writing

@@ -1,0 +1,97 @@
+-- What is put into an empty record is held there.
+use mathlib.Core.Path.{_≡_, sym, ap, ap₂, _∙_}
+use mathlib.Core.List.{List, [], _∷_, _++_, append-assoc}
+use Prim.Native.Nat.{ℕ, suc, _+_, _-_, _≤_, _<_}
+use native.Mathlib.Omega.{arith}
+use lib.ListN.{length, set, replicate, length-append}
+use lib.Seq.{set-append-seam}
+use Rattle.sets.proofs.Lists.{pick-lt}
+use Rattle.cases.specs.declared.Case.{Case}
+use Rattle.refusals.specs.declared.Judged.{Judged}
+use Rattle.refusals.specs.declared.Judged.the-variants.{Good, Refused}
+use Rattle.refusals.specs.declared.Refusal.{Refusal}
+use Rattle.refusals.specs.Refusals.{judgedBy, orElse}
+use Rattle.asking.specs.Asking.{numberCheck}
+use Rattle.files.specs.declared.FileRead.{FileRead}
+use Rattle.files.specs.Reading.{readOf}
+use Rattle.planner.specs.declared.PlanAnswer.{PlanAnswer}
+use Rattle.planner.specs.declared.VerdictAnswer.{VerdictAnswer}
+use Rattle.planner.specs.Calls.{planCall, staticCall, decrementalCall, dynamicCall}
+use Rattle.telling.specs.declared.text.Text.{Text}
+use Rattle.telling.specs.Lines.{bytes}
+use Rattle.telling.specs.Telling.{caseLine, askedLine, planLine, verdictLine, refusedLine, sixLines, told, textOf, judgedInput, absentIn, limitIn, fileIn}
+use Rattle.telling.specs.Held.{room, held, putByte, put}
+use Rattle.telling.proofs.Growing.{then-put, put-same}
+use Rattle.telling.proofs.Lists.{append-nil}
+use Rattle.telling.proofs.Fits.{text-fits}
+
+held-byte : (a : List ℕ) (b : ℕ) → length a < room → putByte (held a) b ≡ held (a ++ (b ∷ []))
+unfolding held putByte
+held-byte a b h =
+    let rest = room - suc (length a) in
+    let more : room - length a ≡ suc rest = omega arith in
+    let longer : length a + 1 ≡ length (a ++ (b ∷ [])) = omega (arith, length-append a (b ∷ [])) in
+    let less : rest ≡ room - length (a ++ (b ∷ [])) = omega (arith, length-append a (b ∷ [])) in
+    sym (pick-lt (length a) room (record { bytes = set (a ++ replicate (room - length a) 0) (length a) b; len = length a + 1 }) (held a) h)
+    ∙ ap₂ (λ (l : List ℕ) (n : ℕ). record { bytes = l; len = n })
+    (ap (λ (n : ℕ). set (a ++ replicate n 0) (length a) b) more
+    ∙ set-append-seam a 0 (replicate rest 0) b
+    ∙ sym (append-assoc a (b ∷ []) (replicate rest 0))
+    ∙ ap (λ (n : ℕ). (a ++ (b ∷ [])) ++ replicate n 0) less)
+    longer
+
+held-put : (a w : List ℕ) → length a + length w ≤ room → put (held a) w ≡ held (a ++ w)
+unfolding put
+held-put a [] h = ap held (sym (append-nil a))
+held-put a (b ∷ w) h =
+    ap (λ (t : Text). put t w) (held-byte a b (omega arith))
+    ∙ held-put (a ++ (b ∷ [])) w (omega (arith, length-append a (b ∷ [])))
+    ∙ ap held (append-assoc a (b ∷ []) w)
+
+-- the six lines, one put after the other
+pub six-put : (c : Case) (t l : ℕ) (x₀ x₁ x₂ x₃ x₄ x₅ x₆ : Text) (p : PlanAnswer) (s e d : VerdictAnswer) → x₀ ≡ held []
+    → x₁ ≡ put x₀ (caseLine (c .counts)) → x₂ ≡ put x₁ (askedLine t l) → p ≡ planCall c l → x₃ ≡ put x₂ (planLine p)
+    → s ≡ staticCall c t l → x₄ ≡ put x₃ (verdictLine (bytes "static") s)
+    → e ≡ decrementalCall c t l → x₅ ≡ put x₄ (verdictLine (bytes "decremental") e)
+    → d ≡ dynamicCall c t l → x₆ ≡ put x₅ (verdictLine (bytes "dynamic") d) → x₆ ≡ put (held []) (sixLines c t l)
+unfolding sixLines
+six-put c t l x₀ x₁ x₂ x₃ x₄ x₅ x₆ p s e d h₀ h₁ h₂ hp h₃ hs h₄ he h₅ hd h₆ =
+    let one = h₁ ∙ ap (λ (x : Text). put x (caseLine (c .counts))) h₀ in
+    let two = then-put _ _ _ _ one _ h₂ in
+    let three = then-put _ _ _ _ two _ (h₃ ∙ ap (λ (a : PlanAnswer). put x₂ (planLine a)) hp) in
+    let four = then-put _ _ _ _ three _ (h₄ ∙ ap (λ (a : VerdictAnswer). put x₃ (verdictLine (bytes "static") a)) hs) in
+    let five = then-put _ _ _ _ four _ (h₅ ∙ ap (λ (a : VerdictAnswer). put x₄ (verdictLine (bytes "decremental") a)) he) in
+    let six = then-put _ _ _ _ five _ (h₆ ∙ ap (λ (a : VerdictAnswer). put x₅ (verdictLine (bytes "dynamic") a)) hd) in
+    put-same _ _ _ _ six (simp append-assoc)
+
+-- ---- an input is judged and told
+
+pub input-judged : (input : List ℕ) (f : FileRead) (t : ℕ) (j k : Judged) → f ≡ readOf (fileIn input) → t ≡ absentIn input
+    → k ≡ judgedBy (numberCheck t ∷ []) → j ≡ orElse (f .judged) k → judgedInput input ≡ j
+unfolding judgedInput
+input-judged input f t j k ef et ek ej =
+    sym
+    (ej
+    ∙ ap₂ orElse (ap (λ (x : FileRead). x .judged) ef) (ek ∙ ap (λ (n : ℕ). judgedBy (numberCheck n ∷ [])) et))
+
+text-held : (input : List ℕ) (x : Text) → x ≡ put (held []) (textOf input) → x ≡ held (textOf input)
+text-held input x e = e ∙ held-put [] (textOf input) (omega (arith, text-fits input))
+
+pub told-refused : (input : List ℕ) (r : Refusal) (x₀ x : Text) → judgedInput input ≡ Refused r → x₀ ≡ held [] → x ≡ put x₀ (refusedLine r)
+    → x ≡ held (textOf input)
+unfolding textOf
+told-refused input r x₀ x e h f =
+    text-held input x
+    (f
+    ∙ ap (λ (y : Text). put y (refusedLine r)) h
+    ∙ ap (λ (j : Judged). put (held []) (told j (sixLines (readOf (fileIn input) .held) (absentIn input) (limitIn input)))) (sym e))
+
+pub told-good : (input : List ℕ) (f : FileRead) (t l : ℕ) (x : Text) → judgedInput input ≡ Good → f ≡ readOf (fileIn input) → t ≡ absentIn input
+    → l ≡ limitIn input → x ≡ put (held []) (sixLines (f .held) t l) → x ≡ held (textOf input)
+unfolding textOf
+told-good input f t l x e ef et el h =
+    let lines : sixLines (f .held) t l ≡ sixLines (readOf (fileIn input) .held) (absentIn input) (limitIn input) = cc in
+    text-held input x
+    (h
+    ∙ ap (put (held [])) lines
+    ∙ ap (λ (j : Judged). put (held []) (told j (sixLines (readOf (fileIn input) .held) (absentIn input) (limitIn input)))) (sym e))

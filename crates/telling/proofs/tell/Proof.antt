@@ -1,0 +1,70 @@
+use mathlib.Core.Path.{_∙_}
+use Rattle.telling.proofs.Writing.{input-judged, told-refused, told-good}
+use borrow.Author.Needs.{needs}
+use Rattle.telling.proofs.tell.Statement.{statement}
+use Rattle.telling.proofs.tell.Tie as tie
+
+word-at-requires : tie.Need-word-at-requires
+word-at-requires c κs = search needs
+
+cast-t : tie.Need-cast-t
+cast-t c = search needs
+
+long-at-requires : tie.Need-long-at-requires
+long-at-requires c κs = search needs
+
+read-file-requires : tie.Need-read-file-requires
+read-file-requires c κs = search needs
+
+judge-number-requires : tie.Need-judge-number-requires
+judge-number-requires c κs = search needs
+
+or-else-requires : tie.Need-or-else-requires
+or-else-requires c κs = search needs
+
+enum-known-refusal : tie.Need-enum-known-refusal
+enum-known-refusal c = search needs
+
+empty-requires : tie.Need-empty-requires
+empty-requires c κs = search needs
+
+put-refusal-requires : tie.Need-put-refusal-requires
+put-refusal-requires c κs = search needs
+
+enum-told : tie.Need-enum-told
+enum-told c = search needs
+
+six-lines-requires : tie.Need-six-lines-requires
+six-lines-requires c κs = search needs
+
+returns : tie.Need-returns
+returns c =
+    let t = c .before .before .before .before .before .before .before .before .before .word-at .ensures in
+    let file = c .before .before .before .before .before .before .before .read-file .ensures in
+    let judged = input-judged _ _ _ _ _ file t (c .before .before .before .before .before .before .judge-number .ensures) (c .before .before .before .before .before .or-else .ensures) in
+    told-refused _ _ _ _ (judged ∙ c .before .before .before .refusal .given .1) (c .before .empty .ensures) (c .put-refusal .ensures)
+
+returns-2 : tie.Need-returns-2
+returns-2 c =
+    let t = c .before .before .before .before .before .before .before .word-at .ensures in
+    let file = c .before .before .before .before .before .read-file .ensures in
+    let judged = input-judged _ _ _ _ _ file t (c .before .before .before .before .judge-number .ensures) (c .before .before .before .or-else .ensures) in
+    told-good _ _ _ _ _ (judged ∙ c .before .enum-told .given .1) file t (c .before .before .before .before .before .before .long-at .ensures) (c .six-lines .ensures)
+
+pub tell-spec : {M : Type 1} → statement M
+tell-spec =
+    tie.close
+    (tie.spec
+    word-at-requires
+    cast-t
+    long-at-requires
+    read-file-requires
+    judge-number-requires
+    or-else-requires
+    enum-known-refusal
+    empty-requires
+    put-refusal-requires
+    enum-told
+    six-lines-requires
+    returns
+    returns-2)

@@ -1,0 +1,62 @@
+// The text of the program `verdicts`, as a function of its input. It knows the layout of the input and the lines, and nothing of streams.
+mod lines;
+mod text;
+
+use asking::judge_number;
+use cases::Case;
+use files::FileRead;
+use files::read;
+use planner::decremental_verdict;
+use planner::dynamic_verdict;
+use planner::plan;
+use planner::static_verdict;
+use refusals::Judged;
+use words::long_at;
+use words::word_at;
+ghost use mathlib.Core.Path.{_≡_};
+ghost use mathlib.Core.List.{[]};
+ghost use Rattle.files.specs.Reading.{readOf};
+ghost use Rattle.telling.specs.Telling.{fileIn, sixLines, textOf};
+ghost use Rattle.telling.specs.Held.{held, put};
+pub use lines::put_asked;
+pub use lines::put_case;
+pub use lines::put_plan;
+pub use lines::put_refusal;
+pub use lines::put_verdict;
+pub use text::Text;
+
+// What the program writes for this input: six lines, or the one line of a refusal. No input is too short or too long.
+pub fn tell(input: &[u8]) -> Text
+    ensures { λ r. ⌜ r ≡ held (textOf (now (input .entry))) ⌝ }
+{
+    let t = word_at(input, 0) as u32;
+    let limit = long_at(input, 2);
+    let file = read_file(input);
+    let judged = file.judged;
+    match judged.or_else(judge_number(t)) {
+        Judged::Refused(refusal) => put_refusal(Text::empty(), refusal),
+        Judged::Good => six_lines(file.held, t, limit),
+    }
+}
+
+// The case behind t and the limit. Fewer than 6 bytes are read as an empty file.
+fn read_file(input: &[u8]) -> FileRead
+    ensures { λ r. ⌜ r ≡ readOf (fileIn (now (input .entry))) ⌝ }
+{
+    if input.len() < 6 {
+        read(&input[..0])
+    } else {
+        read(&input[6..])
+    }
+}
+
+// The six lines for a case.
+fn six_lines(case: Case, t: u32, limit: u32) -> Text
+    ensures { λ r. ⌜ r ≡ put (held []) (sixLines case t limit) ⌝ }
+{
+    let head = put_asked(put_case(Text::empty(), case.counts), t, limit);
+    let planned = put_plan(head, plan(case, limit));
+    let fixed = put_verdict(planned, b"static", static_verdict(case, t, limit));
+    let growing = put_verdict(fixed, b"decremental", decremental_verdict(case, t, limit));
+    put_verdict(growing, b"dynamic", dynamic_verdict(case, t, limit))
+}

@@ -1,0 +1,143 @@
+// The lines, each put at the end of a text.
+use crate::Text;
+use cases::Counts;
+use cases::Position;
+use planner::PlanAnswer;
+use planner::PlanSays;
+use planner::VerdictAnswer;
+use refusals::Refusal;
+use sets::Lowest;
+use sets::People;
+ghost use mathlib.Core.Path.{_≡_};
+ghost use mathlib.Core.List.{[], _∷_, _++_, map};
+ghost use Rattle.sets.specs.Lists.{consIf};
+ghost use Rattle.sets.specs.Sets.{has, members};
+ghost use Rattle.sets.specs.Stored.{width, number};
+ghost use Rattle.cases.specs.Positions.{persons};
+ghost use Rattle.telling.specs.Lines.{decimal, spaced};
+ghost use Rattle.telling.specs.Held.{put};
+ghost use Rattle.telling.specs.Telling.{listed, trials, refused, caseLine, askedLine, planLine, verdictLine, refusedLine};
+
+// The counts: people, steps, roles, tables, rules.
+pub fn put_case(text: Text, n: Counts) -> Text
+    ensures { λ r. ⌜ r ≡ put text (caseLine n) ⌝ }
+{
+    let entries = text.put(b"case")
+        .put_number(n.people as u32)
+        .put_number(n.steps as u32);
+    let rest = entries
+        .put_number(n.roles as u32)
+        .put_number(n.tables as u32);
+    rest.put_number(n.rules as u32).put_byte(b'\n')
+}
+
+// t and the limit.
+pub fn put_asked(text: Text, t: u32, limit: u32) -> Text
+    ensures { λ r. ⌜ r ≡ put text (askedLine t limit) ⌝ }
+{
+    let absent = text.put(b"absent").put_number(t);
+    absent.put(b" limit").put_number(limit).put_byte(b'\n')
+}
+
+// What the plan call said.
+pub fn put_plan(text: Text, answer: PlanAnswer) -> Text
+    ensures { λ r. ⌜ r ≡ put text (planLine answer) ⌝ }
+{
+    let named = text.put(b"plan");
+    let says = answer.says;
+    match says {
+        PlanSays::Refused(refusal) => end_refused(named.put(b" refused"), refusal),
+        PlanSays::Limit(trials) => end_trials(named.put(b" limit"), trials),
+        PlanSays::No(trials) => end_trials(named.put(b" no"), trials),
+        PlanSays::Yes(trials) => end_trials(put_persons(named.put(b" yes"), answer.plan), trials),
+    }
+}
+
+// What a verdict said, after the question's name.
+pub fn put_verdict(text: Text, name: &[u8], answer: VerdictAnswer) -> Text
+    ensures { λ r. ⌜ r ≡ put text (verdictLine (now (name .entry)) answer) ⌝ }
+{
+    let named = text.put(name);
+    match answer {
+        VerdictAnswer::Refused(refusal) => end_refused(named.put(b" refused"), refusal),
+        VerdictAnswer::Limit(trials) => end_trials(named.put(b" limit"), trials),
+        VerdictAnswer::Yes(trials) => end_trials(named.put(b" yes"), trials),
+        VerdictAnswer::No(shown, trials) => end_trials(put_set(named.put(b" no"), shown), trials),
+    }
+}
+
+// A refusal: its number and its place.
+pub fn put_refusal(text: Text, refusal: Refusal) -> Text
+    ensures { λ r. ⌜ r ≡ put text (refusedLine refusal) ⌝ }
+{
+    end_refused(text.put(b"refused"), refusal)
+}
+
+// The end of a line that says "refused".
+fn end_refused(text: Text, refusal: Refusal) -> Text
+    ensures { λ r. ⌜ r ≡ put text (spaced (refused refusal) ++ (10 ∷ [])) ⌝ }
+{
+    let numbered = text.put_number(refusal.number as u32).put(b" at");
+    numbered.put_number(refusal.place as u32).put_byte(b'\n')
+}
+
+// The end of a line that shows trials.
+fn end_trials(text: Text, n: u32) -> Text
+    ensures { λ r. ⌜ r ≡ put text (spaced (trials n) ++ (10 ∷ [])) ⌝ }
+{
+    text.put(b" trials").put_number(n).put_byte(b'\n')
+}
+
+// The persons of a position by step, or `none`.
+fn put_persons(text: Text, p: Position) -> Text
+    ensures { λ r. ⌜ r ≡ put text (spaced (listed (persons p))) ⌝ }
+{
+    if p.len == 0 {
+        return text.put(b" none");
+    }
+    each_person(text, p)
+}
+
+fn each_person(text: Text, p: Position) -> Text
+    ensures { λ r. ⌜ r ≡ put text (spaced (map decimal (persons p))) ⌝ }
+{
+    let mut longer = text;
+    let mut i: u8 = 0;
+    while i < p.len {
+        longer = longer.put_number(p.person(i).0 as u32);
+        i += 1;
+    }
+    longer
+}
+
+// The members of a set, ascending, or `none`.
+fn put_set(text: Text, set: People) -> Text
+    ensures { λ r. ⌜ r ≡ put text (spaced (listed (members width (number set)))) ⌝ }
+{
+    match set.lowest() {
+        Lowest::Nobody => text.put(b" none"),
+        Lowest::Person(_) => each_member(text, set),
+    }
+}
+
+fn each_member(text: Text, set: People) -> Text
+    ensures { λ r. ⌜ r ≡ put text (spaced (map decimal (members width (number set)))) ⌝ }
+{
+    let mut longer = text;
+    let mut v: u8 = 0;
+    while v < People::WIDTH {
+        longer = put_member(longer, set, v);
+        v += 1;
+    }
+    longer
+}
+
+// Person v, if a member.
+fn put_member(text: Text, set: People, v: u8) -> Text
+    ensures { λ r. ⌜ r ≡ put text (spaced (map decimal (consIf (has (number set) v) v []))) ⌝ }
+{
+    if set.has(v) {
+        return text.put_number(v as u32);
+    }
+    text
+}
