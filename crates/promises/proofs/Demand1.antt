@@ -4,10 +4,11 @@ use mathlib.Core.Path.{_≡_, refl, sym, ap, ap₂, _∙_, subst}
 use mathlib.Core.Logic.{_↔_}
 use mathlib.Core.Option.{Option, none, some, Option·some-ne-none}
 use mathlib.Core.Bool.{not, _||_}
-use mathlib.Core.List.{List, [], _∷_}
-use Prim.Native.Nat.{ℕ, suc, _<_}
+use mathlib.Core.List.{List, [], _∷_, _++_}
+use Prim.Native.Nat.{ℕ, suc, _*_, _<_}
+use native.Mathlib.Omega.{arith}
 use lib.Dec.{ltb}
-use lib.ListN.{length, getD, take}
+use lib.ListN.{length, getD, take, drop}
 use Rattle.sets.specs.Lists.{pick}
 use Rattle.games.specs.Limit.{Answer, cut}
 use Rattle.cases.specs.declared.Case.{Case}
@@ -21,7 +22,17 @@ use Rattle.refusals.specs.Refusals.{Check, refusal, entryCheck, judgedBy, orEls
 use Rattle.refusals.specs.CaseChecks.{judgedCase}
 use Rattle.refusals.specs.Table.{Row, Meets, Exactly, caseTable}
 use Rattle.refusals.proofs.Order.{good-refused}
-use Rattle.refusals.proofs.Cases.{case-exactly, same-refusal}
+use Rattle.refusals.proofs.Cases.{case-exactly, same-checks, same-refusal}
+use Rattle.refusals.specs.Offsets.{totalOf}
+use Rattle.words.specs.Word.{le2}
+use Rattle.words.specs.Part.{run}
+use Rattle.words.proofs.Parts.{run-cong}
+use Rattle.layout.specs.Layout.{headBytes, bytesOfStep, bytesOfRow, bytesOfRule, fileOf}
+use Rattle.writing.specs.declared.Written.the-variants.{Bytes}
+use Rattle.writing.specs.Writing.{roomCheck, writeChecks, judgedWrite, answerOf, writeAnswer, heldAfter, written}
+use Rattle.files.specs.Checks.{judgedFile}
+use Rattle.files.specs.FileTable.{fileTable}
+use Rattle.files.proofs.Exactly.{file-exactly}
 use Rattle.asking.specs.Asking.{numberCheck, badEntry, positionCheck, absenceCheck, judgedQuestion, judgedAdvice, judgedAway}
 use Rattle.asking.specs.Table.{questionTable, awayTable, adviceTable}
 use Rattle.asking.proofs.Exact.{question-exactly, away-exactly, advice-exactly}
@@ -31,7 +42,7 @@ use Rattle.planner.specs.declared.Question.the-variants.{Static, Decremental, D
 use Rattle.planner.specs.Answers.{planGiven, verdictGiven, adviceGiven, awayGiven}
 use Rattle.planner.specs.Calls.{planCall, walkOf, questionCall, adviceCall, awayCall}
 use Rattle.planner.specs.Told.{Told, refused, answered, planTold, verdictTold, adviceTold, awayTold}
-use Rattle.promises.specs.Ends.{RefusedAt, ByTable}
+use Rattle.promises.specs.Ends.{numberIn, placeIn, RefusedAt, ByTable}
 use Rattle.promises.proofs.Telling.{told, told-answered, good-told, plan-told, question-told, advice-told, away-told}
 
 -- ---- what is told goes by the table that the judgement goes by
@@ -52,6 +63,29 @@ module _ {B : Type 0} where
             (λ r. x .given n place .0 (refused-told j a n place .0 r), λ m. refused-told j a n place .1 (x .given n place .1 m));
         good = (λ d. x .good .0 (told-answered j a (d .0) (d .1) .0), λ m. (a, good-told j a (x .good .1 m)));
       }
+
+-- ---- Judging a file, and a case in memory: number and place told exactly by the table
+
+judged-by-table : (table : List Row) (j : Judged) → Exactly table j → (n place : ℕ) → 0 < n
+    → ((numberIn j ≡ n) × (placeIn j ≡ place)) ↔ (Meets table n place × ((m p : ℕ) → m < n → Meets table m p → ⊥))
+judged-by-table table j x n place h = (λ k. x .given n place .0 (there j k), λ m. back j (x .given n place .1 m))
+  where
+    there : (j : Judged) → (numberIn j ≡ n) × (placeIn j ≡ place) → j ≡ Refused (refusal n place)
+    there Good k = absurd (omega (arith, k .0))
+    there (Refused r) k = ap₂ (λ m p. Refused (refusal m p)) (k .0) (k .1)
+
+    back : (j : Judged) → j ≡ Refused (refusal n place) → (numberIn j ≡ n) × (placeIn j ≡ place)
+    back j e = (ap numberIn e, ap placeIn e)
+
+pub file-by-table : (f : List ℕ) (n place : ℕ) → 0 < n
+    → ((numberIn (judgedFile f) ≡ n) × (placeIn (judgedFile f) ≡ place)) ↔ (Meets (fileTable f) n place × ((m p : ℕ) → m < n → Meets (fileTable f) m p → ⊥))
+file-by-table f n place h = judged-by-table (fileTable f) (judgedFile f) (file-exactly f) n place h
+
+pub case-by-table : (c : Case) (n place : ℕ) → 0 < n
+    → ((numberIn (judgedCase c) ≡ n) × (placeIn (judgedCase c) ≡ place)) ↔ (Meets (caseTable c) n place × ((m p : ℕ) → m < n → Meets (caseTable c) m p → ⊥))
+case-by-table c n place h = judged-by-table (caseTable c) (judgedCase c) (case-exactly c) n place h
+
+-- ---- The calls
 
 -- Plan: 4, then 7 to 11.
 pub plan-by-table : (c : Case) (l : ℕ) → ByTable (caseTable c) (planTold (planCall c l))
@@ -118,3 +152,38 @@ module _ (c d : Case) (same : SameBelow c d) where
   pub away-above : (p : List ℕ) (t l : ℕ) → awayCall c p t l ≡ awayCall d p t l
   unfolding awayCall
   away-above p t l = ap₂ (λ j w. awayGiven j (cut l w)) (away-judged-same p t) (walks-same .away t p)
+
+  -- the writer ignores it: the same answer, and the same bytes left
+  write-judged-same : (n : ℕ) → judgedWrite n c ≡ judgedWrite n d
+  unfolding judgedWrite writeChecks
+  write-judged-same n = ap₂ (λ (x : List Check) (m : Counts). judgedBy (x ++ (roomCheck m n ∷ []))) (same-checks c d same) (same .counts)
+
+  runs-same : (e g : ℕ → List ℕ) (m n : ℕ) → m ≡ n → ((i : ℕ) → i < m → e i ≡ g i) → run e m ≡ run g n
+  runs-same e g m n q h = run-cong e g m h ∙ ap (run g) q
+
+  file-same : fileOf c ≡ fileOf d
+  unfolding fileOf
+  file-same =
+      ap₂ _++_
+      (ap₂ _++_
+      (ap₂ _++_
+      (ap₂ _++_ (ap headBytes (same .counts)) (runs-same _ _ _ _ (ap (λ (n : Counts). n .people) (same .counts)) (λ i l. ap le2 (same .people i l))))
+      (runs-same _ _ _ _ (ap (λ (n : Counts). n .steps) (same .counts)) (λ i l. ap bytesOfStep (same .steps i l))))
+      (runs-same _ _ _ _ (ap (λ (n : Counts). n .tables * n .people) (same .counts)) (λ i l. ap bytesOfRow (same .rows i l))))
+      (runs-same _ _ _ _ (ap (λ (n : Counts). n .rules) (same .counts)) (λ i l. ap bytesOfRule (same .rules i l)))
+
+  pub write-above : (buffer : List ℕ) → (writeAnswer (length buffer) c ≡ writeAnswer (length buffer) d) × (written buffer c ≡ written buffer d)
+  unfolding writeAnswer written
+  write-above buffer =
+      (answers (judgedWrite (length buffer) c) ∙ ap (answerOf d) judged-same, holds (judgedWrite (length buffer) c) ∙ ap (heldAfter buffer d) judged-same)
+    where
+      judged-same : judgedWrite (length buffer) c ≡ judgedWrite (length buffer) d
+      judged-same = write-judged-same (length buffer)
+
+      answers : (j : Judged) → answerOf c j ≡ answerOf d j
+      answers Good = ap (λ (n : Counts). Bytes (totalOf n)) (same .counts)
+      answers (Refused r) = refl
+
+      holds : (j : Judged) → heldAfter buffer c j ≡ heldAfter buffer d j
+      holds Good = ap₂ (λ (f : List ℕ) (n : Counts). f ++ drop (totalOf n) buffer) file-same (same .counts)
+      holds (Refused r) = refl

@@ -8,7 +8,7 @@ use Prim.Native.Nat.{ℕ, _≤_, _<_}
 use native.Mathlib.Nat.{le-trans}
 use Rattle.games.specs.Games.{Absent}
 use Rattle.games.specs.Walks.{Walk}
-use Rattle.games.specs.Limit.{cut}
+use Rattle.games.specs.Limit.{Ended, limit, ended, cut}
 use Rattle.cases.specs.declared.Case.{Case}
 use Rattle.cases.specs.Case.{people, steps}
 use Rattle.cases.specs.Plans.{Plan, FirstPlan}
@@ -19,15 +19,18 @@ use Rattle.cases.specs.Chain.{planOf, adviceAt, awayAt}
 use Rattle.cases.proofs.Answers.{plan-exact, plan-first-got, static-exact, static-no, decremental-exact, decremental-no, dynamic-exact}
 use Rattle.cases.proofs.Play.{dynamic-no}
 use Rattle.refusals.specs.declared.Judged.{Judged}
-use Rattle.refusals.specs.declared.Judged.the-variants.{Good}
+use Rattle.refusals.specs.declared.Judged.the-variants.{Good, Refused}
 use Rattle.refusals.specs.CaseChecks.{judgedCase}
 use Rattle.asking.specs.Asking.{judgedQuestion, judgedAdvice, judgedAway}
 use Rattle.planner.specs.declared.Question.{Question}
 use Rattle.planner.specs.declared.Question.the-variants.{Static, Decremental, Dynamic}
+use Rattle.planner.specs.declared.PlanSays.the-variants as says
+use Rattle.planner.specs.Answers.{planGiven}
+use Rattle.cases.specs.Positions.{startPosition}
 use Rattle.planner.specs.Calls.{planCall, walkOf, questionCall, staticCall, decrementalCall, dynamicCall, adviceCall, awayCall}
 use Rattle.planner.specs.Told.{Told, planTold, verdictTold, adviceTold, awayTold}
-use Rattle.promises.specs.Ends.{SaysLimit, EndsAfter, Ends}
-use Rattle.promises.proofs.Telling.{told, Came, came, comes, limit-told, plan-told, question-told, advice-told, away-told}
+use Rattle.promises.specs.Ends.{SaysLimit, EndsAfter, Ends, Came}
+use Rattle.promises.proofs.Telling.{told, came, comes, limit-told, plan-told, question-told, advice-told, away-told}
 
 -- ---- what a call that ends says of its walk
 
@@ -55,6 +58,18 @@ plan-comes-back c l b e =
 -- it is a plan, and the first in the walk's order
 pub plan-is-first : (c : Case) (l : ℕ) (q : List ℕ) → Ends (planTold (planCall c l)) (some q) → Plan c q × FirstPlan c q
 plan-is-first c l q e = plan-first-got c q .0 (plan-came c l (some q) (e .0) (e .1) .got)
+
+-- where it does not say yes it shows no plan: neither a refusal, nor "limit", nor a no carries one
+pub plan-shows-nothing : (c : Case) (l : ℕ) → ((n : ℕ) → planCall c l .says ≡ says.Yes n → ⊥) → planCall c l .plan ≡ startPosition
+unfolding planCall
+plan-shows-nothing c l f = at (judgedCase c) (cut l (planOf c) .out) (cut l (planOf c) .count) f
+  where
+    at : (j : Judged) (o : Ended (Option (List ℕ))) (n : ℕ) → ((m : ℕ) → planGiven j (record { out = o; count = n }) .says ≡ says.Yes m → ⊥)
+        → planGiven j (record { out = o; count = n }) .plan ≡ startPosition
+    at (Refused r) o n g = refl
+    at Good limit n g = refl
+    at Good (ended none) n g = refl
+    at Good (ended (some q)) n g = absurd (g n refl)
 
 -- ---- Verdicts are yes exactly if the desk wins that game; a no shows what the scope says
 

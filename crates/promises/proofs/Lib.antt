@@ -1,5 +1,6 @@
 -- The promises, in the order of the tender's demands.
 pub mod Telling
+pub mod Accepting
 pub mod Demand1
 pub mod Demand2
 pub mod Demand3

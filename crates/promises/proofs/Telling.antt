@@ -5,6 +5,7 @@ use mathlib.Core.Option.{Option, none, some, Option·none-ne-some, Option·some-
 use mathlib.Core.Bool.{Bool, true, false}
 use mathlib.Core.List.{List, [], _∷_, map}
 use Prim.Native.Nat.{ℕ, zero, suc, _≤_, _<_}
+use native.Mathlib.Decide.{decLt}
 use native.Mathlib.Omega.{arith}
 use lib.ListN.{length, getD}
 use Rattle.sets.specs.Lists.{pick, upto}
@@ -28,7 +29,7 @@ use Rattle.planner.specs.declared.Question.{Question}
 use Rattle.planner.specs.Answers.{personOf, positionOf, planEnded, planAnswer, planGiven, verdictEnded, verdictGiven, adviceEnded, adviceGiven, awayEnded, awayGiven}
 use Rattle.planner.specs.Calls.{planCall, walkOf, questionCall, adviceCall, awayCall}
 use Rattle.planner.specs.Told.{Told, refused, answered, planTold, verdictTold, adviceTold, awayTold}
-use Rattle.promises.specs.Ends.{RefusedAt, SaysLimit, EndsAfter, Ends}
+use Rattle.promises.specs.Ends.{RefusedAt, SaysLimit, EndsAfter, Ends, Came}
 
 -- ---- a judgement, and what is answered where it is good
 
@@ -48,20 +49,13 @@ module _ {B : Type 0} where
   pub good-told : (j : Judged) (a : Answer B) → j ≡ Good → told j a ≡ answered a
   good-told j a e = ap (λ i. told i a) e
 
-  -- what a call that ends says of its judgement and its walk
-  pub record Came (j : Judged) (l : ℕ) (w : Walk B) (b : B) (n : ℕ) : Type 0 where
-    pub good : j ≡ Good
-    pub got : w .got ≡ b
-    pub trials : w .trials ≡ n
-    pub within : n ≤ l
-
   pub came : (j : Judged) (l : ℕ) (w : Walk B) (b : B) (n : ℕ) → EndsAfter (told j (cut l w)) b n → Came j l w b n
   came j l w b n e =
       let k = told-answered j (cut l w) (whole (record { got = b; trials = n })) e in
       let out : cut l w .out ≡ ended b = ap (λ (a : Answer B). a .out) (k .1) in
       let x = cut-ended l w b .0 out in
       let m : w .trials ≡ n = sym (cut-trials l w b out) ∙ ap (λ (a : Answer B). a .count) (k .1) in
-      record { good = k .0; got = x .1; trials = m; within = omega (arith, x .0, m) }
+      record { accepted = k .0; got = x .1; trials = m; within = omega (arith, x .0, m) }
 
   pub comes : (j : Judged) (l : ℕ) (w : Walk B) → j ≡ Good → w .trials ≤ l → EndsAfter (told j (cut l w)) (w .got) (w .trials)
   comes j l w e h = good-told j (cut l w) e ∙ ap answered (cut-within l w h)
@@ -78,6 +72,14 @@ module _ {B : Type 0} where
 
       back : (j ≡ Good) × (l < w .trials) × (n ≡ l) → SaysLimit d n
       back k = q ∙ good-told j (cut l w) (k .0) ∙ ap answered (cut-past l w (k .1) ∙ ap stopped (sym (k .2)))
+
+  -- a call that is not refused and does not stop at its limit ends
+  pub ends-within : (d : Told B) (j : Judged) (l : ℕ) (w : Walk B) → d ≡ told j (cut l w) → j ≡ Good → ((n : ℕ) → SaysLimit d n → ⊥) → Ends d (w .got)
+  ends-within d j l w q e f = at (decLt l (w .trials))
+    where
+      at : Dec (l < w .trials) → Ends d (w .got)
+      at (yes h) = absurd (f l (limit-told d j l w l q .1 (e, h, refl)))
+      at (no h) = (w .trials, q ∙ comes j l w e (omega arith))
 
 -- ---- the calls
 
