@@ -3,3 +3,4 @@ pub mod Lists
 pub mod Sayings
 pub mod Fits
 pub mod Writing
+pub mod Longer

@@ -3,8 +3,8 @@ use mathlib.Core.Path.{_≡_, sym, ap, ap₂, _∙_}
 use mathlib.Core.List.{List, [], _∷_, _++_, append-assoc}
 use Prim.Native.Nat.{ℕ, suc, _+_, _-_, _≤_, _<_}
 use native.Mathlib.Omega.{arith}
-use lib.ListN.{length, set, replicate, length-append}
-use lib.Seq.{set-append-seam}
+use lib.ListN.{length, take, set, replicate, length-append}
+use lib.Seq.{set-append-seam, take-append-seam}
 use Rattle.sets.proofs.Lists.{pick-lt}
 use Rattle.cases.specs.declared.Case.{Case}
 use Rattle.refusals.specs.declared.Judged.{Judged}
@@ -19,7 +19,8 @@ use Rattle.planner.specs.declared.VerdictAnswer.{VerdictAnswer}
 use Rattle.planner.specs.Calls.{planCall, staticCall, decrementalCall, dynamicCall}
 use Rattle.telling.specs.declared.text.Text.{Text}
 use Rattle.telling.specs.Lines.{bytes}
-use Rattle.telling.specs.Telling.{caseLine, askedLine, planLine, verdictLine, refusedLine, sixLines, told, textOf, judgedInput, absentIn, limitIn, fileIn}
+use Rattle.telling.specs.Telling.{caseLine, askedLine, planLine, verdictLine, refusedLine}
+use Rattle.telling.specs.Telling.{sixLines, told, textOf, judgedInput, absentIn, limitIn, fileIn}
 use Rattle.telling.specs.Held.{room, held, putByte, put}
 use Rattle.telling.proofs.Growing.{then-put, put-same}
 use Rattle.telling.proofs.Lists.{append-nil}
@@ -95,3 +96,19 @@ told-good input f t l x e ef et el h =
     (h
     ∙ ap (put (held [])) lines
     ∙ ap (λ (j : Judged). put (held []) (told j (sixLines (readOf (fileIn input) .held) (absentIn input) (limitIn input)))) (sym e))
+
+-- ---- what a caller does with a text that is held
+
+module _ (x : Text) (l : List ℕ) (e : x ≡ held l) where
+  -- its length is within its bytes
+  pub held-within : x .len ≤ length (x .bytes)
+  unfolding held
+  held-within =
+      let long : x .len ≡ length l = ap (λ (t : Text). t .len) e in
+      let bytes : length (x .bytes) ≡ length (l ++ replicate (room - length l) 0) = ap (λ (t : Text). length (t .bytes)) e in
+      omega (arith, length-append l (replicate (room - length l) 0))
+
+  -- its bytes, as many as its length says, are the text
+  pub held-shown : take (x .len) (x .bytes) ≡ l
+  unfolding held
+  held-shown = ap (λ (t : Text). take (t .len) (t .bytes)) e ∙ take-append-seam l (replicate (room - length l) 0)

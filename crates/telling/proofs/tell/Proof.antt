@@ -41,15 +41,18 @@ returns : tie.Need-returns
 returns c =
     let t = c .before .before .before .before .before .before .before .before .before .word-at .ensures in
     let file = c .before .before .before .before .before .before .before .read-file .ensures in
-    let judged = input-judged _ _ _ _ _ file t (c .before .before .before .before .before .before .judge-number .ensures) (c .before .before .before .before .before .or-else .ensures) in
+    let twelve = c .before .before .before .before .before .before .judge-number .ensures in
+    let judged = input-judged _ _ _ _ _ file t twelve (c .before .before .before .before .before .or-else .ensures) in
     told-refused _ _ _ _ (judged ∙ c .before .before .before .refusal .given .1) (c .before .empty .ensures) (c .put-refusal .ensures)
 
 returns-2 : tie.Need-returns-2
 returns-2 c =
     let t = c .before .before .before .before .before .before .before .word-at .ensures in
     let file = c .before .before .before .before .before .read-file .ensures in
-    let judged = input-judged _ _ _ _ _ file t (c .before .before .before .before .judge-number .ensures) (c .before .before .before .or-else .ensures) in
-    told-good _ _ _ _ _ (judged ∙ c .before .enum-told .given .1) file t (c .before .before .before .before .before .before .long-at .ensures) (c .six-lines .ensures)
+    let twelve = c .before .before .before .before .judge-number .ensures in
+    let judged = input-judged _ _ _ _ _ file t twelve (c .before .before .before .or-else .ensures) in
+    let limit = c .before .before .before .before .before .before .long-at .ensures in
+    told-good _ _ _ _ _ (judged ∙ c .before .enum-told .given .1) file t limit (c .six-lines .ensures)
 
 pub tell-spec : {M : Type 1} → statement M
 tell-spec =

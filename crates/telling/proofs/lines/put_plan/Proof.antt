@@ -65,30 +65,33 @@ end-trials-requires-3 c κs = search needs
 returns : tie.Need-returns
 unfolding planLine
 returns c =
+    let plan = c .before .before .before .before .before .before .before .before .args .answer .plan in
     answer-line _ _ _ _ _ _ _ (c .before .before .before .before .before .before .put .ensures) (c .before .put2 .ensures) _
-    (ap (λ s. planWords s (c .before .before .before .before .before .before .before .before .args .answer .plan)) (c .before .before .before .before .says .given .1))
+    (ap (λ s. planWords s plan) (c .before .before .before .before .says .given .1))
     (c .end-refused .ensures)
 
 returns-2 : tie.Need-returns-2
 unfolding planLine
 returns-2 c =
+    let plan = c .before .before .before .before .before .before .before .before .args .answer .plan in
     answer-line _ _ _ _ _ _ _ (c .before .before .before .before .before .before .put .ensures) (c .before .put3 .ensures) _
-    (ap (λ s. planWords s (c .before .before .before .before .before .before .before .before .args .answer .plan)) (c .before .before .before .before .says2 .given .1))
+    (ap (λ s. planWords s plan) (c .before .before .before .before .says2 .given .1))
     (c .end-trials .ensures)
 
 returns-3 : tie.Need-returns-3
 unfolding planLine
 returns-3 c =
+    let plan = c .before .before .before .before .before .before .before .before .args .answer .plan in
     answer-line _ _ _ _ _ _ _ (c .before .before .before .before .before .before .put .ensures) (c .before .put4 .ensures) _
-    (ap (λ s. planWords s (c .before .before .before .before .before .before .before .before .args .answer .plan)) (c .before .before .before .before .says3 .given .1))
+    (ap (λ s. planWords s plan) (c .before .before .before .before .says3 .given .1))
     (c .end-trials2 .ensures)
 
 returns-4 : tie.Need-returns-4
 unfolding planLine
 returns-4 c =
-    shown-line _ _ _ _ _ _ _ (c .before .before .before .before .before .before .before .put .ensures) (c .before .before .put5 .ensures) _
-    _ _
-    (ap (λ s. planWords s (c .before .before .before .before .before .before .before .before .before .args .answer .plan)) (c .before .before .before .before .before .says4 .given .1))
+    let plan = c .before .before .before .before .before .before .before .before .before .args .answer .plan in
+    shown-line _ _ _ _ _ _ _ (c .before .before .before .before .before .before .before .put .ensures) (c .before .before .put5 .ensures) _ _ _
+    (ap (λ s. planWords s plan) (c .before .before .before .before .before .says4 .given .1))
     (c .before .put-persons .ensures) (c .end-trials3 .ensures)
 
 pub put-plan-spec : {M : Type 1} → statement M

@@ -28,13 +28,13 @@ each-member-requires c κs = search needs
 returns : tie.Need-returns
 unfolding spaced
 returns c =
-    put-same _ _ _ _ (c .put .ensures)
-    (ap spaced (sym (members-none _ _ (sym (c .before .before .before .before .lowest .ensures) ∙ ap lowestNumber (c .before .before .enum-told .given .1)))))
+    let nobody = sym (c .before .before .before .before .lowest .ensures) ∙ ap lowestNumber (c .before .before .enum-told .given .1) in
+    put-same _ _ _ _ (c .put .ensures) (ap spaced (sym (members-none _ _ nobody)))
 
 returns-2 : tie.Need-returns-2
 returns-2 c =
-    put-same _ _ _ _ (c .each-member .ensures)
-    (ap spaced (sym (members-some _ _ _ (sym (c .before .before .before .lowest .ensures) ∙ ap lowestNumber (c .before .enum-told2 .given .1)))))
+    let somebody = sym (c .before .before .before .lowest .ensures) ∙ ap lowestNumber (c .before .enum-told2 .given .1) in
+    put-same _ _ _ _ (c .each-member .ensures) (ap spaced (sym (members-some _ _ _ somebody)))
 
 pub put-set-spec : {M : Type 1} → statement M
 put-set-spec =
