@@ -92,6 +92,16 @@ use Rattle.planner.proofs.decremental_verdict.Reads as decremental-verdict-read
 use Rattle.planner.proofs.dynamic_verdict.Reads as dynamic-verdict-reads
 use Rattle.planner.proofs.advice.Reads as advice-reads
 use Rattle.planner.proofs.away.Reads as away-reads
+use Rattle.telling.proofs.tell.Reads as tell-reads
+use Rattle.telling.proofs.text.Text.empty.Reads as text-empty-reads
+use Rattle.telling.proofs.text.Text.put_byte.Reads as text-put-byte-reads
+use Rattle.telling.proofs.text.Text.put.Reads as text-put-reads
+use Rattle.telling.proofs.text.Text.put_number.Reads as text-put-number-reads
+use Rattle.telling.proofs.put_case.Reads as put-case-reads
+use Rattle.telling.proofs.put_asked.Reads as put-asked-reads
+use Rattle.telling.proofs.put_plan.Reads as put-plan-reads
+use Rattle.telling.proofs.put_verdict.Reads as put-verdict-reads
+use Rattle.telling.proofs.put_refusal.Reads as put-refusal-reads
 
 -- ---- What an answer says fixes it
 
@@ -385,3 +395,35 @@ advice-one κs args r s x y p q = p ∙ sym q
 
 pub away-one : (κs : _) (args : _) (r s : _) (x y : _) → away-reads.Post κs args r x → away-reads.Post κs args s y → r ≡ s
 away-one κs args r s x y p q = p ∙ sym q
+
+-- ---- `telling`: The program's text
+
+pub tell-one : (κs : _) (args : _) (r s : _) (x y : _) → tell-reads.Post κs args r x → tell-reads.Post κs args s y → r ≡ s
+tell-one κs args r s x y p q = p ∙ sym q
+
+pub text-empty-one : (κs : _) (args : _) (r s : _) (x y : _) → text-empty-reads.Post κs args r x → text-empty-reads.Post κs args s y → r ≡ s
+text-empty-one κs args r s x y p q = p ∙ sym q
+
+pub text-put-byte-one : (κs : _) (args : _) (r s : _) (x y : _) → text-put-byte-reads.Post κs args r x → text-put-byte-reads.Post κs args s y → r ≡ s
+text-put-byte-one κs args r s x y p q = p ∙ sym q
+
+pub text-put-one : (κs : _) (args : _) (r s : _) (x y : _) → text-put-reads.Post κs args r x → text-put-reads.Post κs args s y → r ≡ s
+text-put-one κs args r s x y p q = p ∙ sym q
+
+pub text-put-number-one : (κs : _) (args : _) (r s : _) (x y : _) → text-put-number-reads.Post κs args r x → text-put-number-reads.Post κs args s y → r ≡ s
+text-put-number-one κs args r s x y p q = p ∙ sym q
+
+pub put-case-one : (κs : _) (args : _) (r s : _) (x y : _) → put-case-reads.Post κs args r x → put-case-reads.Post κs args s y → r ≡ s
+put-case-one κs args r s x y p q = p ∙ sym q
+
+pub put-asked-one : (κs : _) (args : _) (r s : _) (x y : _) → put-asked-reads.Post κs args r x → put-asked-reads.Post κs args s y → r ≡ s
+put-asked-one κs args r s x y p q = p ∙ sym q
+
+pub put-plan-one : (κs : _) (args : _) (r s : _) (x y : _) → put-plan-reads.Post κs args r x → put-plan-reads.Post κs args s y → r ≡ s
+put-plan-one κs args r s x y p q = p ∙ sym q
+
+pub put-verdict-one : (κs : _) (args : _) (r s : _) (x y : _) → put-verdict-reads.Post κs args r x → put-verdict-reads.Post κs args s y → r ≡ s
+put-verdict-one κs args r s x y p q = p ∙ sym q
+
+pub put-refusal-one : (κs : _) (args : _) (r s : _) (x y : _) → put-refusal-reads.Post κs args r x → put-refusal-reads.Post κs args s y → r ≡ s
+put-refusal-one κs args r s x y p q = p ∙ sym q
