@@ -6,7 +6,7 @@ use lib.ListN.{length, set, replicate}
 use Rattle.sets.specs.Lists.{pick}
 use Rattle.telling.specs.declared.text.Text.{Text}
 
--- How many bytes a text has room for: no text is longer.
+-- How many bytes a text has room for: a bound that no text passes.
 abbrev pub room : ℕ
 room = 1560
 
