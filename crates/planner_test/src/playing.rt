@@ -53,8 +53,7 @@ struct Tally {
     completes: u32,
 }
 
-// Plays away against so many desks. A desk is a list of persons, one for each step, and desk d is the one whose numbers are the digits of d, the lowest
-// first.
+// Plays away against so many desks. A desk is a list of persons, one for each step: those of desk d are the digits of d, the lowest first.
 pub fn dodge(case: Case, t: u32, limit: u32, desks: u32) {
     let mut tally = Tally {
         kept_away: 0,
