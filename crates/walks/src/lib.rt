@@ -337,23 +337,23 @@ pub fn away_turn(
     if left == 0 {
         return Verdict::Yes(0);
     }
-    let mut set = away;
+    let mut gone = away;
     let mut used: u32 = 0;
     loop {
-        match desk_turn(board, people, t, set, p, left, limit - used) {
+        match desk_turn(board, people, t, gone, p, left, limit - used) {
             Turn::Limit => {
                 return Verdict::Limit;
             }
             Turn::Beaten(trials) => {
-                return Verdict::No(set, used + trials);
+                return Verdict::No(gone, used + trials);
             }
             Turn::Holds(trials) => {
                 used += trials;
             }
         }
-        match set.next(people, t, away) {
+        match gone.next(people, t, away) {
             Next::Set(larger) => {
-                set = larger;
+                gone = larger;
             }
             Next::Nothing => {
                 return Verdict::Yes(used);

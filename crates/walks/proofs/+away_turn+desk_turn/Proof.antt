@@ -53,11 +53,11 @@ desk-turn-below t =
     and 1 desk-turn-kinds.ps (falls 1 desk-turn-kinds.ps _<_ μ-desk-turn t) desk-turn.Pre
 
 abbrev away-turn-Inv-loop : away-turn-lts.InvT-loop
-away-turn-Inv-loop board people t away p left limit set₀ used₀ set used =
-    Sweep (beatsOn board people t (left - 1) (persons p)) (decremental (boardChain board people) t left (number away) (persons p)) people t (number away) limit (number set) used
+away-turn-Inv-loop board people t away p left limit gone₀ used₀ gone used =
+    Sweep (beatsOn board people t (left - 1) (persons p)) (decremental (boardChain board people) t left (number away) (persons p)) people t (number away) limit (number gone) used
 
 abbrev away-turn-μ-loop : away-turn-lts.MeasureT-loop
-away-turn-μ-loop board people t away p left limit set₀ used₀ set used = 2 ^ people - number set
+away-turn-μ-loop board people t away p left limit gone₀ used₀ gone used = 2 ^ people - number gone
 
 -- what the calls of away_turn ask and give
 abbrev away-turn-calls : ℕ → away-turn-lts.Claims
