@@ -37,7 +37,8 @@ trials n = bytes "trials" ∷ (decimal n ∷ [])
 abbrev pub refused : Refusal → List (List ℕ)
 refused r = decimal (r .number) ∷ (bytes "at" ∷ (decimal (r .place) ∷ []))
 
--- After "plan yes" stand the persons by step. "plan no" shows nothing but its trials. (No call refuses a case that was judged good.)
+-- After "plan yes" stand the persons by step. "plan no" shows nothing but its trials. No call refuses a case that was judged good
+-- (proofs/Answered.antt), so that the word "refused" stands in no line but a refusal's own.
 abbrev pub planWords : PlanSays → Position → List (List ℕ)
 planWords (plan.Refused r) p = bytes "refused" ∷ refused r
 planWords (plan.Limit n) p = bytes "limit" ∷ trials n
