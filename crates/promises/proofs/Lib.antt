@@ -4,5 +4,4 @@ pub mod Accepting
 pub mod Demand1
 pub mod Demand2
 pub mod Demand3
-pub mod Program
 pub mod OneOutcome
