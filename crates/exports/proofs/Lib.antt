@@ -1,0 +1,3 @@
+-- What the calls' proofs use.
+pub mod Fronts
+pub mod Replying
