@@ -20,10 +20,14 @@ use planner::static_verdict;
 use refusals::Judged;
 use refusals::Refusal;
 use sets::People;
+use telling::Text;
+use telling::tell;
 ghost use mathlib.Core.Path.{_≡_};
-ghost use lib.ListN.{getD, take};
+ghost use lib.ListN.{length, getD, take};
 ghost use Rattle.cases.specs.Case.{mostSteps};
 ghost use Rattle.cases.specs.Positions.{persons};
+ghost use Rattle.telling.specs.Held.{held};
+ghost use Rattle.telling.specs.Telling.{textOf};
 ghost use Rattle.exports.specs.Replies.{refusedReply, saidReply, plannedReply, planReply, verdictReply, adviceReply, awayReply};
 ghost use Rattle.exports.specs.Exports.{ifGood, judgeReply, planFile, staticFile, decrementalFile, dynamicFile, adviceFile, awayFile};
 
@@ -130,6 +134,18 @@ pub extern "C" fn rodcrank_away(
     let case = got.held;
     let p = position_of(position);
     *out = if_good(judged, away_reply(away(case, p, t, limit)));
+}
+
+// The text of the program `verdicts` for its input, t (2 bytes), limit (4 bytes) and a file, with zero behind it. Returns how many bytes the text has.
+#[no_mangle]
+pub extern "C" fn rodcrank_verdicts(input: &[u8], out: &mut [u8; Text::ROOM]) -> usize
+    ensures { λ r. ⌜ r ≡ length (textOf (now (input .entry))) ⌝ }
+    ensures { λ _. ⌜ now (out .exit) ≡ held (textOf (now (input .entry))) .bytes ⌝ }
+{
+    let text = tell(input);
+    let bytes = text.bytes;
+    *out = bytes;
+    text.len
 }
 
 // The first 8 bytes as a position. A longer one is turned away by 13 whatever it holds, and so are these 8.

@@ -1,0 +1,146 @@
+//! The library against the plain Rust walk: the same files, the same process, both built for release. For each question the two take
+//! turns, and the best of three turns counts. Each call reads, judges and lays out its file; answers and trials must be the same.
+//! No buffer is cleared or warmed before a turn but by the turns before it.
+//!
+//! usage: bench                 both workloads, timed
+//!        bench count W Q SIDE  one turn of one question alone, for a tool that counts instructions: workload 0 or 1, question 0 to
+//!                              5, side 0 (neither: only the files are made), 1 (library) or 2 (plain)
+#[allow(dead_code)]
+mod cases;
+#[allow(dead_code)]
+mod plain;
+#[allow(dead_code)]
+mod rodcrank;
+use cases::{make, Dice, Shape};
+use rodcrank::{Answer, Ended, Verdict};
+use std::time::Instant;
+
+/// Trials, and a number that any other answer would change.
+type Sum = (u64, u64);
+
+fn add<T>(sum: &mut Sum, answer: &Answer<T>, told: impl Fn(&T) -> u64) {
+    let (told, trials) = match answer {
+        Err(r) => (1000 + u64::from(r.number), 0),
+        Ok(Ended::Limit(n)) => (7, *n),
+        Ok(Ended::With(got, n)) => (told(got), *n),
+    };
+    sum.0 += u64::from(trials);
+    sum.1 = sum.1.wrapping_mul(31).wrapping_add(told).wrapping_mul(31).wrapping_add(u64::from(trials));
+}
+
+fn of_verdict(v: &Verdict) -> u64 {
+    match v {
+        Verdict::Yes => 1,
+        Verdict::No(set) => 2 + u64::from(*set),
+    }
+}
+
+fn of_set(set: &Option<u32>) -> u64 {
+    set.map_or(1, |s| 2 + u64::from(s))
+}
+
+const QUESTIONS: [&str; 6] = ["plan", "static", "decremental", "dynamic", "advice", "away"];
+
+struct Workload {
+    name: &'static str,
+    files: Vec<Vec<u8>>,
+    t: u32,
+    /// each question's limit
+    limits: [u32; 6],
+}
+
+/// One turn: a question asked of every file, by the library or in plain Rust.
+fn turn(w: &Workload, question: usize, library: bool) -> Sum {
+    let mut sum = (0, 0);
+    let (t, limit) = (w.t, w.limits[question]);
+    for file in &w.files {
+        match question {
+            0 => {
+                let answer = if library { rodcrank::plan(file, limit) } else { plain::plan(file, limit) };
+                add(&mut sum, &answer, |p| p.as_ref().map_or(1, |who| who.iter().fold(2, |n, v| 33 * n + u64::from(*v))));
+            }
+            1..=3 => {
+                let ask = match (question, library) {
+                    (1, true) => rodcrank::static_verdict,
+                    (1, false) => plain::static_verdict,
+                    (2, true) => rodcrank::decremental_verdict,
+                    (2, false) => plain::decremental_verdict,
+                    (_, true) => rodcrank::dynamic_verdict,
+                    (_, false) => plain::dynamic_verdict,
+                };
+                add(&mut sum, &ask(file, t, limit), of_verdict);
+            }
+            4 => {
+                let ask = if library { rodcrank::advice } else { plain::advice };
+                add(&mut sum, &ask(file, &[], t, 0b101, limit), |v| v.map_or(1, |v| 2 + u64::from(v)));
+            }
+            _ => {
+                let ask = if library { rodcrank::away } else { plain::away };
+                add(&mut sum, &ask(file, &[], t, limit), of_set);
+            }
+        }
+    }
+    sum
+}
+
+/// The most of each question that is walked in one call.
+const LIMIT: u32 = 1_000_000;
+
+fn workloads() -> [Workload; 2] {
+    let mut dice = Dice(0x5EED_0FCA_5E5D);
+    let hard = Shape { people: 32, steps: 8, roles: 16, tables: 6, rules: 32, thick: 85, held: 30 };
+    let open = Shape { people: 32, steps: 8, roles: 16, tables: 6, rules: 32, thick: 97, held: 50 };
+    [
+        Workload {
+            name: "8 steps, 32 people, 32 rules of all forms, t = 1",
+            files: (0..24).map(|_| make(&mut dice, hard)).collect(),
+            t: 1,
+            limits: [LIMIT; 6],
+        },
+        Workload {
+            name: "the same, absence sets with t = 3",
+            files: (0..24).map(|_| make(&mut dice, open)).collect(),
+            t: 3,
+            limits: [LIMIT; 6],
+        },
+    ]
+}
+
+fn main() {
+    let args: Vec<String> = std::env::args().collect();
+    let works = workloads();
+    if args.len() == 5 && args[1] == "count" {
+        let n: Vec<usize> = args[2..].iter().map(|a| a.parse().expect("a number")).collect();
+        if n[2] > 0 {
+            println!("{} trials", turn(&works[n[0]], n[1], n[2] == 1).0);
+        }
+        return;
+    }
+    let (mut logs, mut rows) = (0.0f64, 0);
+    for w in &works {
+        println!("{} ({} files)", w.name, w.files.len());
+        println!("{:12} {:>12} {:>16} {:>16} {:>8}", "question", "trials", "library /s", "plain Rust /s", "ratio");
+        let mut all = 0;
+        for q in 0..QUESTIONS.len() {
+            let (mut ours, mut theirs) = (f64::MAX, f64::MAX);
+            let mut trials = 0;
+            for _ in 0..3 {
+                let start = Instant::now();
+                let a = turn(w, q, true);
+                ours = ours.min(start.elapsed().as_secs_f64());
+                let start = Instant::now();
+                let b = turn(w, q, false);
+                theirs = theirs.min(start.elapsed().as_secs_f64());
+                assert_eq!(a, b, "{}: the answers differ", QUESTIONS[q]);
+                trials = a.0;
+            }
+            all += trials;
+            let ratio = ours / theirs;
+            logs += ratio.ln();
+            rows += 1;
+            println!("{:12} {:>12} {:>16.0} {:>16.0} {:>8.2}", QUESTIONS[q], trials, trials as f64 / ours, trials as f64 / theirs, ratio);
+        }
+        println!("{} trials in all\n", all);
+    }
+    println!("time of the library over time of plain Rust, geometric mean: {:.2}", (logs / f64::from(rows)).exp());
+}

@@ -1,0 +1,80 @@
+//! Cases made by a generator with a fixed seed, for the test and the benchmark.
+
+/// A small generator of numbers (xorshift64*).
+pub struct Dice(pub u64);
+
+impl Dice {
+    pub fn next(&mut self) -> u32 {
+        self.0 ^= self.0 >> 12;
+        self.0 ^= self.0 << 25;
+        self.0 ^= self.0 >> 27;
+        (self.0.wrapping_mul(0x2545_F491_4F6C_DD1D) >> 32) as u32
+    }
+
+    /// A number below n, 0 where n is 0.
+    pub fn below(&mut self, n: u32) -> u32 {
+        if n == 0 {
+            0
+        } else {
+            self.next() % n
+        }
+    }
+
+    /// One in n.
+    pub fn one_in(&mut self, n: u32) -> bool {
+        self.below(n) == 0
+    }
+}
+
+/// What a case is made with: counts, how thick its tables are (out of 100), and how many of 100 (person, step) pairs share a role.
+#[derive(Clone, Copy)]
+pub struct Shape {
+    pub people: u32,
+    pub steps: u32,
+    pub roles: u32,
+    pub tables: u32,
+    pub rules: u32,
+    pub thick: u32,
+    pub held: u32,
+}
+
+fn put(file: &mut Vec<u8>, numbers: &[u32]) {
+    for n in numbers {
+        file.extend_from_slice(&(*n as u16).to_le_bytes());
+    }
+}
+
+/// A good file of this shape.
+pub fn make(dice: &mut Dice, s: Shape) -> Vec<u8> {
+    let steps_at = 24 + 2 * s.people;
+    let tables_at = steps_at + 4 * s.steps;
+    let rules_at = tables_at + 4 * s.tables * s.people;
+    let total = rules_at + 4 * s.rules;
+    let mut file = Vec::new();
+    put(&mut file, &[1, s.people, s.steps, s.roles, s.tables, s.rules, 24, steps_at, tables_at, rules_at, total, 0]);
+    let some = |dice: &mut Dice, n: u32, of100: u32| (0..n).fold(0u32, |set, i| set | ((dice.below(100) < of100) as u32) << i);
+    for _ in 0..s.people {
+        let held = some(dice, s.roles, s.held);
+        put(&mut file, &[held]);
+    }
+    for i in 0..s.steps {
+        let roles = some(dice, s.roles, s.held);
+        put(&mut file, &[roles, some(dice, i, 30)]);
+    }
+    for _ in 0..s.tables * s.people {
+        file.extend_from_slice(&some(dice, s.people, s.thick).to_le_bytes());
+    }
+    for _ in 0..s.rules {
+        let form = 1 + dice.below(3);
+        let one = 1 << dice.below(s.steps);
+        let group = if form == 1 { one } else { some(dice, s.steps, 30) | one };
+        let relation = match dice.below(4) {
+            0 => 0,
+            1 | 2 => 1,
+            _ => 2,
+        };
+        let relation = if relation < 2 || s.tables == 0 { relation % 2 } else { 2 + dice.below(s.tables) };
+        file.extend_from_slice(&[form as u8, relation as u8, dice.below(s.steps) as u8, group as u8]);
+    }
+    file
+}
