@@ -45,14 +45,12 @@ struct Workload {
     name: &'static str,
     files: Vec<Vec<u8>>,
     t: u32,
-    /// each question's limit
-    limits: [u32; 6],
 }
 
 /// One turn: a question asked of every file, by the library or in plain Rust.
 fn turn(w: &Workload, question: usize, library: bool) -> Sum {
     let mut sum = (0, 0);
-    let (t, limit) = (w.t, w.limits[question]);
+    let (t, limit) = (w.t, LIMIT);
     for file in &w.files {
         match question {
             0 => {
@@ -72,7 +70,7 @@ fn turn(w: &Workload, question: usize, library: bool) -> Sum {
             }
             4 => {
                 let ask = if library { rodcrank::advice } else { plain::advice };
-                add(&mut sum, &ask(file, &[], t, 0b101, limit), |v| v.map_or(1, |v| 2 + u64::from(v)));
+                add(&mut sum, &ask(file, &[], t, (1 << t) - 1, limit), |v| v.map_or(1, |v| 2 + u64::from(v)));
             }
             _ => {
                 let ask = if library { rodcrank::away } else { plain::away };
@@ -83,25 +81,23 @@ fn turn(w: &Workload, question: usize, library: bool) -> Sum {
     sum
 }
 
-/// The most of each question that is walked in one call.
+/// The most trials of one call.
 const LIMIT: u32 = 1_000_000;
 
 fn workloads() -> [Workload; 2] {
     let mut dice = Dice(0x5EED_0FCA_5E5D);
-    let hard = Shape { people: 32, steps: 8, roles: 16, tables: 6, rules: 32, thick: 85, held: 30 };
-    let open = Shape { people: 32, steps: 8, roles: 16, tables: 6, rules: 32, thick: 97, held: 50 };
+    let tight = Shape { people: 32, steps: 8, roles: 16, tables: 6, rules: 32, thick: 60, held: 30, same: 0, own: 0 };
+    let loose = Shape { thick: 97, held: 50, same: 1, ..tight };
     [
         Workload {
             name: "8 steps, 32 people, 32 rules of all forms, t = 1",
-            files: (0..24).map(|_| make(&mut dice, hard)).collect(),
+            files: (0..24).map(|_| make(&mut dice, tight)).collect(),
             t: 1,
-            limits: [LIMIT; 6],
         },
         Workload {
-            name: "the same, absence sets with t = 3",
-            files: (0..24).map(|_| make(&mut dice, open)).collect(),
+            name: "the same counts, thicker tables, many absence sets: t = 3",
+            files: (0..24).map(|_| make(&mut dice, loose)).collect(),
             t: 3,
-            limits: [LIMIT; 6],
         },
     ]
 }
@@ -142,5 +138,17 @@ fn main() {
         }
         println!("{} trials in all\n", all);
     }
+    // what a call costs besides its trials: a good file judged and laid out, and no trial allowed
+    let alone = |library: bool| {
+        let start = Instant::now();
+        for _ in 0..100 {
+            for file in &works[0].files {
+                let answer = if library { rodcrank::dynamic_verdict(file, 1, 0) } else { plain::dynamic_verdict(file, 1, 0) };
+                assert_eq!(answer, Ok(Ended::Limit(0)));
+            }
+        }
+        start.elapsed().as_secs_f64() * 1e6 / (100 * works[0].files.len()) as f64
+    };
+    println!("a call without a trial: library {:.1} us, plain Rust {:.1} us", alone(true), alone(false));
     println!("time of the library over time of plain Rust, geometric mean: {:.2}", (logs / f64::from(rows)).exp());
 }

@@ -26,7 +26,8 @@ impl Dice {
     }
 }
 
-/// What a case is made with: counts, how thick its tables are (out of 100), and how many of 100 (person, step) pairs share a role.
+/// What a case is made with: its counts; how many of 100 pairs are in a table, roles are held, and rules say "same person";
+/// and how many of 100 rules may have s itself in X.
 #[derive(Clone, Copy)]
 pub struct Shape {
     pub people: u32,
@@ -36,6 +37,8 @@ pub struct Shape {
     pub rules: u32,
     pub thick: u32,
     pub held: u32,
+    pub same: u32,
+    pub own: u32,
 }
 
 fn put(file: &mut Vec<u8>, numbers: &[u32]) {
@@ -66,15 +69,22 @@ pub fn make(dice: &mut Dice, s: Shape) -> Vec<u8> {
     }
     for _ in 0..s.rules {
         let form = 1 + dice.below(3);
-        let one = 1 << dice.below(s.steps);
-        let group = if form == 1 { one } else { some(dice, s.steps, 30) | one };
-        let relation = match dice.below(4) {
-            0 => 0,
-            1 | 2 => 1,
-            _ => 2,
+        let step = dice.below(s.steps);
+        let mut one = dice.below(s.steps);
+        let mut more = if form == 1 { 0 } else { some(dice, s.steps, 30) };
+        if dice.below(100) >= s.own {
+            one = if one == step { (step + 1) % s.steps } else { one };
+            more &= !(1 << step);
+        }
+        let group = more | 1 << one;
+        let relation = if dice.below(100) < s.same {
+            0
+        } else if s.tables == 0 || dice.one_in(2) {
+            1
+        } else {
+            2 + dice.below(s.tables)
         };
-        let relation = if relation < 2 || s.tables == 0 { relation % 2 } else { 2 + dice.below(s.tables) };
-        file.extend_from_slice(&[form as u8, relation as u8, dice.below(s.steps) as u8, group as u8]);
+        file.extend_from_slice(&[form as u8, relation as u8, step as u8, group as u8]);
     }
     file
 }

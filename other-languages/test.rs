@@ -16,6 +16,8 @@ fn shape(dice: &mut Dice) -> Shape {
         rules: if steps == 0 { 0 } else { dice.below(if large { 33 } else { 9 }) },
         thick: [20, 50, 80, 95][dice.below(4) as usize],
         held: [10, 30, 60, 90][dice.below(4) as usize],
+        same: [0, 5, 30][dice.below(3) as usize],
+        own: [0, 10, 100][dice.below(3) as usize],
     }
 }
 
