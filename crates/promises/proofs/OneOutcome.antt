@@ -102,6 +102,14 @@ use Rattle.telling.proofs.put_asked.Reads as put-asked-reads
 use Rattle.telling.proofs.put_plan.Reads as put-plan-reads
 use Rattle.telling.proofs.put_verdict.Reads as put-verdict-reads
 use Rattle.telling.proofs.put_refusal.Reads as put-refusal-reads
+use Rattle.exports.proofs.rodcrank_judge.Reads as rodcrank-judge-reads
+use Rattle.exports.proofs.rodcrank_plan.Reads as rodcrank-plan-reads
+use Rattle.exports.proofs.rodcrank_static.Reads as rodcrank-static-reads
+use Rattle.exports.proofs.rodcrank_decremental.Reads as rodcrank-decremental-reads
+use Rattle.exports.proofs.rodcrank_dynamic.Reads as rodcrank-dynamic-reads
+use Rattle.exports.proofs.rodcrank_advice.Reads as rodcrank-advice-reads
+use Rattle.exports.proofs.rodcrank_away.Reads as rodcrank-away-reads
+use Rattle.exports.proofs.rodcrank_verdicts.Reads as rodcrank-verdicts-reads
 
 -- ---- What an answer says fixes it
 
@@ -427,3 +435,29 @@ put-verdict-one κs args r s x y p q = p ∙ sym q
 
 pub put-refusal-one : (κs : _) (args : _) (r s : _) (x y : _) → put-refusal-reads.Post κs args r x → put-refusal-reads.Post κs args s y → r ≡ s
 put-refusal-one κs args r s x y p q = p ∙ sym q
+
+-- ---- `exports`: The calls for other languages
+
+pub rodcrank-judge-one : (κs : _) (args : _) (r s : _) (x y : _) → rodcrank-judge-reads.Post κs args r x → rodcrank-judge-reads.Post κs args s y → now (x .1 .0) ≡ now (y .1 .0)
+rodcrank-judge-one κs args r s x y p q = p ∙ sym q
+
+pub rodcrank-plan-one : (κs : _) (args : _) (r s : _) (x y : _) → rodcrank-plan-reads.Post κs args r x → rodcrank-plan-reads.Post κs args s y → now (x .1 .1 .0) ≡ now (y .1 .1 .0)
+rodcrank-plan-one κs args r s x y p q = p ∙ sym q
+
+pub rodcrank-static-one : (κs : _) (args : _) (r s : _) (x y : _) → rodcrank-static-reads.Post κs args r x → rodcrank-static-reads.Post κs args s y → now (x .1 .1 .1 .0) ≡ now (y .1 .1 .1 .0)
+rodcrank-static-one κs args r s x y p q = p ∙ sym q
+
+pub rodcrank-decremental-one : (κs : _) (args : _) (r s : _) (x y : _) → rodcrank-decremental-reads.Post κs args r x → rodcrank-decremental-reads.Post κs args s y → now (x .1 .1 .1 .0) ≡ now (y .1 .1 .1 .0)
+rodcrank-decremental-one κs args r s x y p q = p ∙ sym q
+
+pub rodcrank-dynamic-one : (κs : _) (args : _) (r s : _) (x y : _) → rodcrank-dynamic-reads.Post κs args r x → rodcrank-dynamic-reads.Post κs args s y → now (x .1 .1 .1 .0) ≡ now (y .1 .1 .1 .0)
+rodcrank-dynamic-one κs args r s x y p q = p ∙ sym q
+
+pub rodcrank-advice-one : (κs : _) (args : _) (r s : _) (x y : _) → rodcrank-advice-reads.Post κs args r x → rodcrank-advice-reads.Post κs args s y → now (x .1 .1 .1 .1 .1 .0) ≡ now (y .1 .1 .1 .1 .1 .0)
+rodcrank-advice-one κs args r s x y p q = p ∙ sym q
+
+pub rodcrank-away-one : (κs : _) (args : _) (r s : _) (x y : _) → rodcrank-away-reads.Post κs args r x → rodcrank-away-reads.Post κs args s y → now (x .1 .1 .1 .1 .0) ≡ now (y .1 .1 .1 .1 .0)
+rodcrank-away-one κs args r s x y p q = p ∙ sym q
+
+pub rodcrank-verdicts-one : (κs : _) (args : _) (r s : _) (x y : _) → rodcrank-verdicts-reads.Post κs args r x → rodcrank-verdicts-reads.Post κs args s y → (r ≡ s) × (now (x .1 .0) ≡ now (y .1 .0))
+rodcrank-verdicts-one κs args r s x y p q = (p .0 ∙ sym (q .0), p .1 ∙ sym (q .1))
