@@ -188,7 +188,8 @@ pub fn list_sets(slate: &mut [usize; SLATE], t: usize) -> bool {
     end <= next
 }
 
-// The next number whose set has at most t people. Where a set has t people already, every number up to its lowest member's place is one of a larger set.
+// The next number whose set has at most t people. Where a set has t people already, every number up to its lowest member's place is of a larger
+// set.
 fn set_after(this: usize, t: usize, end: usize) -> usize {
     if size(this) < t {
         return plus(this, 1);

@@ -1,6 +1,6 @@
 // A second search, written from the scope alone. It shares no code with the walks and goes another way: it has every valid position of a case listed
-// once, and works every question out from the longest positions back to the start. What a game says is asked for every set of absentees; how many trials
-// the walk would take is summed up from the longer positions, without walking.
+// once, and works every question out from the longest positions back to the start. What a game says is asked for every set of absentees; how many
+// trials the walk would take is summed up from the longer positions, without walking.
 //
 // Nothing is promised here but safety: questions that the slate has no room for are given up, and the comparison counts them.
 mod games;

@@ -165,6 +165,12 @@ pub fn try_away(
     let position = position_of(asked.who, asked.length);
     let theirs = ask_away(case, position, to_32(t), limit_of(most));
     compare(tally, file, length, 5, within(most, ours), theirs);
+    if below(seed, 10) == 0 {
+        let high = plus(33, below(seed, 100));
+        let refused = refused_told(turned_by(12, 0));
+        let then = ask_away(case, position, to_32(high), limit_of(most));
+        compare(tally, file, length, 5, refused, then);
+    }
 }
 
 fn our_away(slate: &[usize; SLATE], file: &[u8; ROOM], asked: Asked, t: usize) -> Answer {

@@ -1,14 +1,15 @@
 // The slate: one lent array of numbers, and what each stretch of it holds.
 //
-// A node is a valid position. Nodes are numbered breadth first, so that a node's kids, its positions longer by one, stand side by side in the order of
-// their last persons, after it.
+// A node is a valid position. Nodes are numbered breadth first, so that a node's kids, its positions longer by one, stand side by side in the order
+// of their last persons, after it.
 use second_files::minus;
 use second_files::plus;
 use second_files::times;
 
 pub const SLATE: usize = 90112;
 
-// How many nodes, how many sets, and how many cells for a node with a set are made. A node's kids may go past the first of these, by one for each person.
+// How many nodes, how many sets, and how many cells for a node with a set are made. A node's kids may go past the first of these, by one for each
+// person.
 pub const MOST_NODES: usize = 4000;
 
 pub const MOST_SETS: usize = 1000;

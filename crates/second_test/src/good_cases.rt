@@ -72,8 +72,9 @@ fn draw_t(seed: &mut [usize; 1], above: usize) -> usize {
         if below(seed, 12) == 0 {
             return below(seed, 33);
         }
+        return minus(below(seed, above), below(seed, 3));
     }
-    minus(below(seed, above), below(seed, 3))
+    below(seed, above)
 }
 
 // t above 32 is 12, but not for the plan.
@@ -109,19 +110,46 @@ fn try_questions(
     let plan = first_plan(slate);
     ask_at_limits(tally, file, length, 0, case, t, plan);
     if list_sets(slate, t) {
-        if has_room(slate) {
-            let fixed = static_answer(slate);
-            ask_at_limits(tally, file, length, 1, case, t, fixed);
-            let shrinking = decremental(slate);
-            ask_at_limits(tally, file, length, 2, case, t, shrinking);
-            let changing = dynamic(slate, t);
-            let full = case_of(seed, file, 4294967296);
-            ask_at_limits(tally, file, length, 3, full, t, changing);
-            try_play(seed, slate, tally, file, length, case, t, changing);
-            return;
-        }
+        try_lasting(slate, tally, file, length, case, t);
+        try_changing(seed, slate, tally, file, length, case, t);
+    } else {
+        count(tally, 10);
     }
-    count(tally, 10);
+}
+
+// The questions where the absent stay away.
+fn try_lasting(
+    slate: &mut [usize; SLATE],
+    tally: &mut [usize; TALLY],
+    file: &[u8; ROOM],
+    length: usize,
+    case: Case,
+    t: usize,
+) {
+    if has_room(slate) {
+        let fixed = static_answer(slate);
+        ask_at_limits(tally, file, length, 1, case, t, fixed);
+        let growing = decremental(slate);
+        ask_at_limits(tally, file, length, 2, case, t, growing);
+    } else {
+        count(tally, 11);
+    }
+}
+
+// The dynamic question, asked of a case with junk above its counts, and its play.
+fn try_changing(
+    seed: &mut [usize; 1],
+    slate: &mut [usize; SLATE],
+    tally: &mut [usize; TALLY],
+    file: &[u8; ROOM],
+    length: usize,
+    case: Case,
+    t: usize,
+) {
+    let ours = dynamic(slate, t);
+    let full = case_of(seed, file, 4294967296);
+    ask_at_limits(tally, file, length, 3, full, t, ours);
+    try_play(seed, slate, tally, file, length, case, t, ours);
 }
 
 // At the largest limit, at the exact count and one below; or at a small limit only, where the walk is long.

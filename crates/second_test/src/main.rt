@@ -104,5 +104,5 @@ fn try_large_case(seed: &mut [usize; 1], slate: &mut [usize; SLATE], tally: &mut
     let rules = plus(2, below(seed, 31));
     let length = draw(seed, &mut file, people, steps, roles, tables, rules, 1);
     count(tally, 4);
-    try_case(seed, slate, tally, &file, length, 2);
+    try_case(seed, slate, tally, &file, length, 3);
 }

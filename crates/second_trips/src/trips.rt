@@ -77,7 +77,7 @@ fn wide(x: u8) -> usize {
     x as usize
 }
 
-// A refused write leaves every byte.
+// A case that is refused is refused into any buffer, also one that is too short, and leaves every byte.
 pub fn try_refused_write(
     tally: &mut [usize; TALLY],
     file: &[u8; ROOM],
@@ -88,6 +88,8 @@ pub fn try_refused_write(
     let mut buffer = [MARK; ROOM];
     let theirs = written_told(writing::write(case, &mut buffer));
     compare(tally, file, length, 7, ours, theirs);
+    let short = written_told(writing::write(case, &mut buffer[0..10]));
+    compare(tally, file, length, 7, ours, short);
     expect(tally, file, length, 7, marked_from(&buffer, 0));
 }
 

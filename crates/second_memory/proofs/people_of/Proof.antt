@@ -1,14 +1,8 @@
+-- `second_memory::people_of` is safe and ends: what is left of the loop falls.
 use borrow.Author.Needs.{needs}
 use Prim.Native.Nat.{_-_}
 use Rattle.second_memory.proofs.people_of.Statement.{statement}
 use Rattle.second_memory.proofs.people_of.Tie as tie
-use Rattle.second_memory.proofs.people_of.Reads as reads
-use Rattle.second_memory.proofs.people_of.Lts as lts
-use Rattle.second_draws.proofs.below.Reads as below-reads
-use Rattle.second_files.proofs.people.Reads as people-reads
-use Rattle.second_files.proofs.person_at.Reads as person-at-reads
-use Rattle.second_files.proofs.word.Reads as word-reads
-use Rattle.second_memory.proofs.to_16.Reads as to-16-reads
 
 abbrev Inv-loop : tie.InvT-loop
 Inv-loop seed₀ file junk n made₀ u₀ seed made u = Unit
@@ -16,51 +10,39 @@ Inv-loop seed₀ file junk n made₀ u₀ seed made u = Unit
 abbrev μ-loop : tie.MeasureT-loop
 μ-loop seed₀ file junk n made₀ u₀ seed made u = 32 - u
 
--- src/lib.rt:67:9
 people-requires : tie.Need-people-requires Inv-loop μ-loop
 people-requires c κs = search needs
 
--- src/lib.rt:70:5
 loop-holds : tie.Need-loop-holds Inv-loop μ-loop
 loop-holds c = search needs
 
--- src/lib.rt:72:24
 person-at-requires : tie.Need-person-at-requires Inv-loop μ-loop
 person-at-requires c κs = search needs
 
--- src/lib.rt:72:13
 word-requires : tie.Need-word-requires Inv-loop μ-loop
 word-requires c κs = search needs
 
--- src/lib.rt:74:13
 below-requires : tie.Need-below-requires Inv-loop μ-loop
 below-requires c κs = search needs
 
--- src/lib.rt:76:19
 to-16-requires : tie.Need-to-16-requires Inv-loop μ-loop
 to-16-requires c κs = search needs
 
--- src/lib.rt:76:9
 mul-made : tie.Need-mul-made Inv-loop μ-loop
 mul-made c = search needs
 
--- src/lib.rt:76:9
 array-write-made : tie.Need-array-write-made Inv-loop μ-loop
 array-write-made c = search needs
 
--- src/lib.rt:77:9
 add-u : tie.Need-add-u Inv-loop μ-loop
 add-u c = search needs
 
--- src/lib.rt:70:5
 loop-less : tie.Need-loop-less Inv-loop μ-loop
 loop-less c = search needs
 
--- src/lib.rt:70:5
 loop-again : tie.Need-loop-again Inv-loop μ-loop
 loop-again c = search needs
 
--- src/lib.rt:66:1
 returns : tie.Need-returns Inv-loop μ-loop
 returns c = search needs
 

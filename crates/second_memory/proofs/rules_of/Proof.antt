@@ -1,14 +1,8 @@
+-- `second_memory::rules_of` is safe and ends: what is left of the loop falls.
 use borrow.Author.Needs.{needs}
 use Prim.Native.Nat.{_-_}
 use Rattle.second_memory.proofs.rules_of.Statement.{statement}
 use Rattle.second_memory.proofs.rules_of.Tie as tie
-use Rattle.second_memory.proofs.rules_of.Reads as reads
-use Rattle.second_memory.proofs.rules_of.Lts as lts
-use Rattle.second_draws.proofs.below.Reads as below-reads
-use Rattle.second_files.proofs.long.Reads as long-reads
-use Rattle.second_files.proofs.rule_at.Reads as rule-at-reads
-use Rattle.second_files.proofs.rules.Reads as rules-reads
-use Rattle.second_memory.proofs.rule_of.Reads as rule-of-reads
 
 abbrev Inv-loop : tie.InvT-loop
 Inv-loop seed₀ file junk n made₀ r₀ seed made r = Unit
@@ -16,55 +10,42 @@ Inv-loop seed₀ file junk n made₀ r₀ seed made r = Unit
 abbrev μ-loop : tie.MeasureT-loop
 μ-loop seed₀ file junk n made₀ r₀ seed made r = 32 - r
 
--- src/lib.rt:126:9
 rules-requires : tie.Need-rules-requires Inv-loop μ-loop
 rules-requires c κs = search needs
 
--- src/lib.rt:127:9
 rule-of-requires : tie.Need-rule-of-requires Inv-loop μ-loop
 rule-of-requires c κs = search needs
 
--- src/lib.rt:130:5
 loop-holds : tie.Need-loop-holds Inv-loop μ-loop
 loop-holds c = search needs
 
--- src/lib.rt:132:24
 rule-at-requires : tie.Need-rule-at-requires Inv-loop μ-loop
 rule-at-requires c κs = search needs
 
--- src/lib.rt:132:13
 long-requires : tie.Need-long-requires Inv-loop μ-loop
 long-requires c κs = search needs
 
--- src/lib.rt:134:13
 below-requires : tie.Need-below-requires Inv-loop μ-loop
 below-requires c κs = search needs
 
--- src/lib.rt:136:19
 rule-of-requires-2 : tie.Need-rule-of-requires-2 Inv-loop μ-loop
 rule-of-requires-2 c κs = search needs
 
--- src/lib.rt:136:9
 mul-made : tie.Need-mul-made Inv-loop μ-loop
 mul-made c = search needs
 
--- src/lib.rt:136:9
 array-set-from-made : tie.Need-array-set-from-made Inv-loop μ-loop
 array-set-from-made c = search needs
 
--- src/lib.rt:137:9
 add-r : tie.Need-add-r Inv-loop μ-loop
 add-r c = search needs
 
--- src/lib.rt:130:5
 loop-less : tie.Need-loop-less Inv-loop μ-loop
 loop-less c = search needs
 
--- src/lib.rt:130:5
 loop-again : tie.Need-loop-again Inv-loop μ-loop
 loop-again c = search needs
 
--- src/lib.rt:125:1
 returns : tie.Need-returns Inv-loop μ-loop
 returns c = search needs
 

@@ -1,10 +1,8 @@
+-- `second_memory::same_rules` is safe and ends: what is left of the loop falls.
 use borrow.Author.Needs.{needs}
 use Prim.Native.Nat.{_-_}
 use Rattle.second_memory.proofs.same_rules.Statement.{statement}
 use Rattle.second_memory.proofs.same_rules.Tie as tie
-use Rattle.second_memory.proofs.same_rules.Reads as reads
-use Rattle.second_memory.proofs.same_rules.Lts as lts
-use Rattle.second_memory.proofs.same_rule.Reads as same-rule-reads
 
 abbrev Inv-loop : tie.InvT-loop
 Inv-loop a b r₀ r = Unit
@@ -12,47 +10,36 @@ Inv-loop a b r₀ r = Unit
 abbrev μ-loop : tie.MeasureT-loop
 μ-loop a b r₀ r = 32 - r
 
--- src/lib.rt:261:5
 loop-holds : tie.Need-loop-holds Inv-loop μ-loop
 loop-holds c = search needs
 
--- src/lib.rt:262:17
 mul-x : tie.Need-mul-x Inv-loop μ-loop
 mul-x c = search needs
 
--- src/lib.rt:262:17
 array-copy-out-x : tie.Need-array-copy-out-x Inv-loop μ-loop
 array-copy-out-x c = search needs
 
--- src/lib.rt:263:17
 mul-y : tie.Need-mul-y Inv-loop μ-loop
 mul-y c = search needs
 
--- src/lib.rt:263:17
 array-copy-out-y : tie.Need-array-copy-out-y Inv-loop μ-loop
 array-copy-out-y c = search needs
 
--- src/lib.rt:264:13
 same-rule-requires : tie.Need-same-rule-requires Inv-loop μ-loop
 same-rule-requires c κs = search needs
 
--- src/lib.rt:265:13
 returns : tie.Need-returns Inv-loop μ-loop
 returns c = search needs
 
--- src/lib.rt:267:9
 add-r : tie.Need-add-r Inv-loop μ-loop
 add-r c = search needs
 
--- src/lib.rt:261:5
 loop-less : tie.Need-loop-less Inv-loop μ-loop
 loop-less c = search needs
 
--- src/lib.rt:261:5
 loop-again : tie.Need-loop-again Inv-loop μ-loop
 loop-again c = search needs
 
--- src/lib.rt:259:1
 returns-2 : tie.Need-returns-2 Inv-loop μ-loop
 returns-2 c = search needs
 

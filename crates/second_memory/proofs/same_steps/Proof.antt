@@ -1,10 +1,8 @@
+-- `second_memory::same_steps` is safe and ends: what is left of the loop falls.
 use borrow.Author.Needs.{needs}
 use Prim.Native.Nat.{_-_}
 use Rattle.second_memory.proofs.same_steps.Statement.{statement}
 use Rattle.second_memory.proofs.same_steps.Tie as tie
-use Rattle.second_memory.proofs.same_steps.Reads as reads
-use Rattle.second_memory.proofs.same_steps.Lts as lts
-use Rattle.second_memory.proofs.same_step.Reads as same-step-reads
 
 abbrev Inv-loop : tie.InvT-loop
 Inv-loop a b s₀ s = Unit
@@ -12,47 +10,36 @@ Inv-loop a b s₀ s = Unit
 abbrev μ-loop : tie.MeasureT-loop
 μ-loop a b s₀ s = 8 - s
 
--- src/lib.rt:225:5
 loop-holds : tie.Need-loop-holds Inv-loop μ-loop
 loop-holds c = search needs
 
--- src/lib.rt:226:17
 mul-x : tie.Need-mul-x Inv-loop μ-loop
 mul-x c = search needs
 
--- src/lib.rt:226:17
 array-copy-out-x : tie.Need-array-copy-out-x Inv-loop μ-loop
 array-copy-out-x c = search needs
 
--- src/lib.rt:227:17
 mul-y : tie.Need-mul-y Inv-loop μ-loop
 mul-y c = search needs
 
--- src/lib.rt:227:17
 array-copy-out-y : tie.Need-array-copy-out-y Inv-loop μ-loop
 array-copy-out-y c = search needs
 
--- src/lib.rt:228:13
 same-step-requires : tie.Need-same-step-requires Inv-loop μ-loop
 same-step-requires c κs = search needs
 
--- src/lib.rt:229:13
 returns : tie.Need-returns Inv-loop μ-loop
 returns c = search needs
 
--- src/lib.rt:231:9
 add-s : tie.Need-add-s Inv-loop μ-loop
 add-s c = search needs
 
--- src/lib.rt:225:5
 loop-less : tie.Need-loop-less Inv-loop μ-loop
 loop-less c = search needs
 
--- src/lib.rt:225:5
 loop-again : tie.Need-loop-again Inv-loop μ-loop
 loop-again c = search needs
 
--- src/lib.rt:223:1
 returns-2 : tie.Need-returns-2 Inv-loop μ-loop
 returns-2 c = search needs
 

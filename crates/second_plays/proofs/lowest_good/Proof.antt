@@ -1,11 +1,8 @@
+-- `second_plays::lowest_good` is safe and ends: what is left of the loop falls.
 use borrow.Author.Needs.{needs}
 use Prim.Native.Nat.{_-_}
 use Rattle.second_plays.proofs.lowest_good.Statement.{statement}
 use Rattle.second_plays.proofs.lowest_good.Tie as tie
-use Rattle.second_plays.proofs.lowest_good.Reads as reads
-use Rattle.second_plays.proofs.lowest_good.Lts as lts
-use Rattle.second.proofs.advice.Reads as advice-reads
-use Rattle.second_files.proofs.set_of.Reads as set-of-reads
 
 abbrev Inv-loop : tie.InvT-loop
 Inv-loop slate node t set₀ i₀ set i = Unit
@@ -13,31 +10,24 @@ Inv-loop slate node t set₀ i₀ set i = Unit
 abbrev μ-loop : tie.MeasureT-loop
 μ-loop slate node t set₀ i₀ set i = t - i
 
--- src/lib.rt:101:5
 loop-holds : tie.Need-loop-holds Inv-loop μ-loop
 loop-holds c = search needs
 
--- src/lib.rt:102:13
 advice-requires : tie.Need-advice-requires Inv-loop μ-loop
 advice-requires c κs = search needs
 
--- src/lib.rt:104:25
 set-of-requires : tie.Need-set-of-requires Inv-loop μ-loop
 set-of-requires c κs = search needs
 
--- src/lib.rt:106:9
 add-i : tie.Need-add-i Inv-loop μ-loop
 add-i c = search needs
 
--- src/lib.rt:101:5
 loop-less : tie.Need-loop-less Inv-loop μ-loop
 loop-less c = search needs
 
--- src/lib.rt:101:5
 loop-again : tie.Need-loop-again Inv-loop μ-loop
 loop-again c = search needs
 
--- src/lib.rt:98:1
 returns : tie.Need-returns Inv-loop μ-loop
 returns c = search needs
 

@@ -1,13 +1,8 @@
+-- `second_plays::play_desk` is safe and ends: what is left of the loop falls.
 use borrow.Author.Needs.{needs}
 use Prim.Native.Nat.{_-_}
 use Rattle.second_plays.proofs.play_desk.Statement.{statement}
 use Rattle.second_plays.proofs.play_desk.Tie as tie
-use Rattle.second_plays.proofs.play_desk.Reads as reads
-use Rattle.second_plays.proofs.play_desk.Lts as lts
-use Rattle.second_plays.proofs.desk_round.Reads as desk-round-reads
-use Rattle.second_positions.proofs.is_full.Reads as is-full-reads
-use Rattle.second_tally.proofs.count.Reads as count-reads
-use Rattle.second_tally.proofs.expect.Reads as expect-reads
 
 abbrev Inv-loop : tie.InvT-loop
 Inv-loop seed₀ slate tally₀ file length case t node₀ round₀ seed tally node round = Unit
@@ -15,39 +10,30 @@ Inv-loop seed₀ slate tally₀ file length case t node₀ round₀ seed tally n
 abbrev μ-loop : tie.MeasureT-loop
 μ-loop seed₀ slate tally₀ file length case t node₀ round₀ seed tally node round = 8 - round
 
--- src/lib.rt:203:5
 count-requires : tie.Need-count-requires Inv-loop μ-loop
 count-requires c κs = search needs
 
--- src/lib.rt:206:5
 loop-holds : tie.Need-loop-holds Inv-loop μ-loop
 loop-holds c = search needs
 
--- src/lib.rt:207:9
 desk-round-requires : tie.Need-desk-round-requires Inv-loop μ-loop
 desk-round-requires c κs = search needs
 
--- src/lib.rt:208:9
 add-round : tie.Need-add-round Inv-loop μ-loop
 add-round c = search needs
 
--- src/lib.rt:206:5
 loop-less : tie.Need-loop-less Inv-loop μ-loop
 loop-less c = search needs
 
--- src/lib.rt:206:5
 loop-again : tie.Need-loop-again Inv-loop μ-loop
 loop-again c = search needs
 
--- src/lib.rt:210:36
 is-full-requires : tie.Need-is-full-requires Inv-loop μ-loop
 is-full-requires c κs = search needs
 
--- src/lib.rt:210:5
 expect-requires : tie.Need-expect-requires Inv-loop μ-loop
 expect-requires c κs = search needs
 
--- src/lib.rt:194:1
 returns : tie.Need-returns Inv-loop μ-loop
 returns c = search needs
 

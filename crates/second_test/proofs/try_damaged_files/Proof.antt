@@ -1,11 +1,8 @@
+-- `second_test::try_damaged_files` is safe and ends: what is left of the loop falls.
 use borrow.Author.Needs.{needs}
 use Prim.Native.Nat.{_-_}
 use Rattle.second_test.proofs.try_damaged_files.Statement.{statement}
 use Rattle.second_test.proofs.try_damaged_files.Tie as tie
-use Rattle.second_test.proofs.try_damaged_files.Reads as reads
-use Rattle.second_test.proofs.try_damaged_files.Lts as lts
-use Rattle.second_files.proofs.plus.Reads as plus-reads
-use Rattle.second_trips.proofs.try_damaged.Reads as try-damaged-reads
 
 abbrev Inv-loop : tie.InvT-loop
 Inv-loop seed₀ tally₀ i₀ seed tally i = Unit
@@ -13,31 +10,24 @@ Inv-loop seed₀ tally₀ i₀ seed tally i = Unit
 abbrev μ-loop : tie.MeasureT-loop
 μ-loop seed₀ tally₀ i₀ seed tally i = 7260 - i
 
--- src/main.rt:31:5
 loop-holds : tie.Need-loop-holds Inv-loop μ-loop
 loop-holds c = search needs
 
--- src/main.rt:32:34
 plus-requires : tie.Need-plus-requires Inv-loop μ-loop
 plus-requires c κs = search needs
 
--- src/main.rt:32:9
 try-damaged-requires : tie.Need-try-damaged-requires Inv-loop μ-loop
 try-damaged-requires c κs = search needs
 
--- src/main.rt:33:9
 add-i : tie.Need-add-i Inv-loop μ-loop
 add-i c = search needs
 
--- src/main.rt:31:5
 loop-less : tie.Need-loop-less Inv-loop μ-loop
 loop-less c = search needs
 
--- src/main.rt:31:5
 loop-again : tie.Need-loop-again Inv-loop μ-loop
 loop-again c = search needs
 
--- src/main.rt:29:1
 returns : tie.Need-returns Inv-loop μ-loop
 returns c = search needs
 

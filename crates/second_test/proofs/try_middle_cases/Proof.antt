@@ -1,10 +1,8 @@
+-- `second_test::try_middle_cases` is safe and ends: what is left of the loop falls.
 use borrow.Author.Needs.{needs}
 use Prim.Native.Nat.{_-_}
 use Rattle.second_test.proofs.try_middle_cases.Statement.{statement}
 use Rattle.second_test.proofs.try_middle_cases.Tie as tie
-use Rattle.second_test.proofs.try_middle_cases.Reads as reads
-use Rattle.second_test.proofs.try_middle_cases.Lts as lts
-use Rattle.second_test.proofs.try_middle_case.Reads as try-middle-case-reads
 
 abbrev Inv-loop : tie.InvT-loop
 Inv-loop seed₀ slate₀ tally₀ i₀ seed slate tally i = Unit
@@ -12,27 +10,21 @@ Inv-loop seed₀ slate₀ tally₀ i₀ seed slate tally i = Unit
 abbrev μ-loop : tie.MeasureT-loop
 μ-loop seed₀ slate₀ tally₀ i₀ seed slate tally i = 300 - i
 
--- src/main.rt:69:5
 loop-holds : tie.Need-loop-holds Inv-loop μ-loop
 loop-holds c = search needs
 
--- src/main.rt:70:9
 try-middle-case-requires : tie.Need-try-middle-case-requires Inv-loop μ-loop
 try-middle-case-requires c κs = search needs
 
--- src/main.rt:71:9
 add-i : tie.Need-add-i Inv-loop μ-loop
 add-i c = search needs
 
--- src/main.rt:69:5
 loop-less : tie.Need-loop-less Inv-loop μ-loop
 loop-less c = search needs
 
--- src/main.rt:69:5
 loop-again : tie.Need-loop-again Inv-loop μ-loop
 loop-again c = search needs
 
--- src/main.rt:67:1
 returns : tie.Need-returns Inv-loop μ-loop
 returns c = search needs
 

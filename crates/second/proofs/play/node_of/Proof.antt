@@ -1,11 +1,8 @@
+-- `second::play::node_of` is safe and ends: what is left of the loop falls.
 use borrow.Author.Needs.{needs}
 use Prim.Native.Nat.{_-_}
 use Rattle.second.proofs.play.node_of.Statement.{statement}
 use Rattle.second.proofs.play.node_of.Tie as tie
-use Rattle.second.proofs.play.node_of.Reads as reads
-use Rattle.second.proofs.play.node_of.Lts as lts
-use Rattle.second_positions.proofs.kid.Reads as kid-reads
-use Rattle.second_positions.proofs.person_of.Reads as person-of-reads
 
 abbrev Inv-loop : tie.InvT-loop
 Inv-loop slate who length node₀ i₀ node i = Unit
@@ -13,31 +10,24 @@ Inv-loop slate who length node₀ i₀ node i = Unit
 abbrev μ-loop : tie.MeasureT-loop
 μ-loop slate who length node₀ i₀ node i = length - i
 
--- src/play.rt:53:5
 loop-holds : tie.Need-loop-holds Inv-loop μ-loop
 loop-holds c = search needs
 
--- src/play.rt:54:33
 person-of-requires : tie.Need-person-of-requires Inv-loop μ-loop
 person-of-requires c κs = search needs
 
--- src/play.rt:54:9
 kid-requires : tie.Need-kid-requires Inv-loop μ-loop
 kid-requires c κs = search needs
 
--- src/play.rt:55:9
 add-i : tie.Need-add-i Inv-loop μ-loop
 add-i c = search needs
 
--- src/play.rt:53:5
 loop-less : tie.Need-loop-less Inv-loop μ-loop
 loop-less c = search needs
 
--- src/play.rt:53:5
 loop-again : tie.Need-loop-again Inv-loop μ-loop
 loop-again c = search needs
 
--- src/play.rt:50:1
 returns : tie.Need-returns Inv-loop μ-loop
 returns c = search needs
 

@@ -1,12 +1,8 @@
+-- `second_draws::drawing::draw_rules` is safe and ends: what is left of the loop falls.
 use borrow.Author.Needs.{needs}
 use Prim.Native.Nat.{_-_}
 use Rattle.second_draws.proofs.drawing.draw_rules.Statement.{statement}
 use Rattle.second_draws.proofs.drawing.draw_rules.Tie as tie
-use Rattle.second_draws.proofs.drawing.draw_rules.Reads as reads
-use Rattle.second_draws.proofs.drawing.draw_rules.Lts as lts
-use Rattle.second_draws.proofs.drawing.draw_rule.Reads as draw-rule-reads
-use Rattle.second_files.proofs.rule_at.Reads as rule-at-reads
-use Rattle.second_files.proofs.rules.Reads as rules-reads
 
 abbrev Inv-loop : tie.InvT-loop
 Inv-loop seed₀ file₀ n r₀ seed file r = Unit
@@ -14,35 +10,27 @@ Inv-loop seed₀ file₀ n r₀ seed file r = Unit
 abbrev μ-loop : tie.MeasureT-loop
 μ-loop seed₀ file₀ n r₀ seed file r = n - r
 
--- src/drawing.rt:99:9
 rules-requires : tie.Need-rules-requires Inv-loop μ-loop
 rules-requires c κs = search needs
 
--- src/drawing.rt:101:5
 loop-holds : tie.Need-loop-holds Inv-loop μ-loop
 loop-holds c = search needs
 
--- src/drawing.rt:102:31
 rule-at-requires : tie.Need-rule-at-requires Inv-loop μ-loop
 rule-at-requires c κs = search needs
 
--- src/drawing.rt:102:9
 draw-rule-requires : tie.Need-draw-rule-requires Inv-loop μ-loop
 draw-rule-requires c κs = search needs
 
--- src/drawing.rt:103:9
 add-r : tie.Need-add-r Inv-loop μ-loop
 add-r c = search needs
 
--- src/drawing.rt:101:5
 loop-less : tie.Need-loop-less Inv-loop μ-loop
 loop-less c = search needs
 
--- src/drawing.rt:101:5
 loop-again : tie.Need-loop-again Inv-loop μ-loop
 loop-again c = search needs
 
--- src/drawing.rt:98:1
 returns : tie.Need-returns Inv-loop μ-loop
 returns c = search needs
 

@@ -1,16 +1,8 @@
+-- `second_draws::drawing::draw_steps` is safe and ends: what is left of the loop falls.
 use borrow.Author.Needs.{needs}
 use Prim.Native.Nat.{_-_}
 use Rattle.second_draws.proofs.drawing.draw_steps.Statement.{statement}
 use Rattle.second_draws.proofs.drawing.draw_steps.Tie as tie
-use Rattle.second_draws.proofs.drawing.draw_steps.Reads as reads
-use Rattle.second_draws.proofs.drawing.draw_steps.Lts as lts
-use Rattle.second_draws.proofs.chance.some_of.Reads as some-of-reads
-use Rattle.second_files.proofs.put_byte.Reads as put-byte-reads
-use Rattle.second_files.proofs.put_word.Reads as put-word-reads
-use Rattle.second_files.proofs.roles.Reads as roles-reads
-use Rattle.second_files.proofs.step_at.Reads as step-at-reads
-use Rattle.second_files.proofs.steps.Reads as steps-reads
-use Rattle.second_files.proofs.plus.Reads as plus-reads
 
 abbrev Inv-loop : tie.InvT-loop
 Inv-loop seed₀ file₀ odds n s₀ seed file s = Unit
@@ -18,63 +10,48 @@ Inv-loop seed₀ file₀ odds n s₀ seed file s = Unit
 abbrev μ-loop : tie.MeasureT-loop
 μ-loop seed₀ file₀ odds n s₀ seed file s = n - s
 
--- src/drawing.rt:75:9
 steps-requires : tie.Need-steps-requires Inv-loop μ-loop
 steps-requires c κs = search needs
 
--- src/drawing.rt:77:5
 loop-holds : tie.Need-loop-holds Inv-loop μ-loop
 loop-holds c = search needs
 
--- src/drawing.rt:78:13
 step-at-requires : tie.Need-step-at-requires Inv-loop μ-loop
 step-at-requires c κs = search needs
 
--- src/drawing.rt:79:33
 roles-requires : tie.Need-roles-requires Inv-loop μ-loop
 roles-requires c κs = search needs
 
--- src/drawing.rt:79:13
 some-of-requires : tie.Need-some-of-requires Inv-loop μ-loop
 some-of-requires c κs = search needs
 
--- src/drawing.rt:80:13
 some-of-requires-2 : tie.Need-some-of-requires-2 Inv-loop μ-loop
 some-of-requires-2 c κs = search needs
 
--- src/drawing.rt:81:9
 put-word-requires : tie.Need-put-word-requires Inv-loop μ-loop
 put-word-requires c κs = search needs
 
--- src/drawing.rt:82:24
 plus-requires : tie.Need-plus-requires Inv-loop μ-loop
 plus-requires c κs = search needs
 
--- src/drawing.rt:82:9
 put-byte-requires : tie.Need-put-byte-requires Inv-loop μ-loop
 put-byte-requires c κs = search needs
 
--- src/drawing.rt:83:24
 plus-requires-2 : tie.Need-plus-requires-2 Inv-loop μ-loop
 plus-requires-2 c κs = search needs
 
--- src/drawing.rt:83:9
 put-byte-requires-2 : tie.Need-put-byte-requires-2 Inv-loop μ-loop
 put-byte-requires-2 c κs = search needs
 
--- src/drawing.rt:84:9
 add-s : tie.Need-add-s Inv-loop μ-loop
 add-s c = search needs
 
--- src/drawing.rt:77:5
 loop-less : tie.Need-loop-less Inv-loop μ-loop
 loop-less c = search needs
 
--- src/drawing.rt:77:5
 loop-again : tie.Need-loop-again Inv-loop μ-loop
 loop-again c = search needs
 
--- src/drawing.rt:74:1
 returns : tie.Need-returns Inv-loop μ-loop
 returns c = search needs
 

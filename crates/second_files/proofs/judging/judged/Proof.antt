@@ -1,12 +1,8 @@
+-- `second_files::judging::judged` is safe and ends: what is left of the loop falls.
 use borrow.Author.Needs.{needs}
 use Prim.Native.Nat.{_-_}
 use Rattle.second_files.proofs.judging.judged.Statement.{statement}
 use Rattle.second_files.proofs.judging.judged.Tie as tie
-use Rattle.second_files.proofs.judging.judged.Reads as reads
-use Rattle.second_files.proofs.judging.judged.Lts as lts
-use Rattle.second_files.proofs.judging.first_bad.Reads as first-bad-reads
-use Rattle.second_files.proofs.judging.header_number.Reads as header-number-reads
-use Rattle.second_files.proofs.judging.turned_by.Reads as turned-by-reads
 
 abbrev Inv-loop : tie.InvT-loop
 Inv-loop file length number n₀ n = Unit
@@ -14,51 +10,39 @@ Inv-loop file length number n₀ n = Unit
 abbrev μ-loop : tie.MeasureT-loop
 μ-loop file length number n₀ n = 12 - n
 
--- src/judging.rt:35:9
 header-number-requires : tie.Need-header-number-requires Inv-loop μ-loop
 header-number-requires c κs = search needs
 
--- src/judging.rt:37:9
 turned-by-requires : tie.Need-turned-by-requires Inv-loop μ-loop
 turned-by-requires c κs = search needs
 
--- src/judging.rt:37:9
 returns : tie.Need-returns Inv-loop μ-loop
 returns c = search needs
 
--- src/judging.rt:40:5
 loop-holds : tie.Need-loop-holds Inv-loop μ-loop
 loop-holds c = search needs
 
--- src/judging.rt:41:13
 first-bad-requires : tie.Need-first-bad-requires Inv-loop μ-loop
 first-bad-requires c κs = search needs
 
--- src/judging.rt:43:13
 turned-by-requires-2 : tie.Need-turned-by-requires-2 Inv-loop μ-loop
 turned-by-requires-2 c κs = search needs
 
--- src/judging.rt:43:13
 returns-2 : tie.Need-returns-2 Inv-loop μ-loop
 returns-2 c = search needs
 
--- src/judging.rt:45:9
 add-n : tie.Need-add-n Inv-loop μ-loop
 add-n c = search needs
 
--- src/judging.rt:40:5
 loop-less : tie.Need-loop-less Inv-loop μ-loop
 loop-less c = search needs
 
--- src/judging.rt:40:5
 loop-again : tie.Need-loop-again Inv-loop μ-loop
 loop-again c = search needs
 
--- src/judging.rt:47:5
 turned-by-requires-3 : tie.Need-turned-by-requires-3 Inv-loop μ-loop
 turned-by-requires-3 c κs = search needs
 
--- src/judging.rt:34:1
 returns-3 : tie.Need-returns-3 Inv-loop μ-loop
 returns-3 c = search needs
 

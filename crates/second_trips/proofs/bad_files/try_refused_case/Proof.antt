@@ -1,16 +1,8 @@
+-- `second_trips::bad_files::try_refused_case` is safe and ends: what is left of the loop falls.
 use borrow.Author.Needs.{needs}
 use Prim.Native.Nat.{_-_}
 use Rattle.second_trips.proofs.bad_files.try_refused_case.Statement.{statement}
 use Rattle.second_trips.proofs.bad_files.try_refused_case.Tie as tie
-use Rattle.second_trips.proofs.bad_files.try_refused_case.Reads as reads
-use Rattle.second_trips.proofs.bad_files.try_refused_case.Lts as lts
-use Rattle.second_calls.proofs.ask_advice.Reads as ask-advice-reads
-use Rattle.second_calls.proofs.ask_away.Reads as ask-away-reads
-use Rattle.second_calls.proofs.ask_verdict.Reads as ask-verdict-reads
-use Rattle.second_draws.proofs.below.Reads as below-reads
-use Rattle.second_memory.proofs.position_of.Reads as position-of-reads
-use Rattle.second_memory.proofs.to_32.Reads as to-32-reads
-use Rattle.second_tally.proofs.compare.Reads as compare-reads
 
 abbrev Inv-loop : tie.InvT-loop
 Inv-loop seed tally₀ file length case ours t limit question₀ tally question = Unit
@@ -18,79 +10,60 @@ Inv-loop seed tally₀ file length case ours t limit question₀ tally question 
 abbrev μ-loop : tie.MeasureT-loop
 μ-loop seed tally₀ file length case ours t limit question₀ tally question = 4 - question
 
--- src/bad_files.rt:90:19
 below-requires : tie.Need-below-requires Inv-loop μ-loop
 below-requires c κs = search needs
 
--- src/bad_files.rt:90:9
 to-32-requires : tie.Need-to-32-requires Inv-loop μ-loop
 to-32-requires c κs = search needs
 
--- src/bad_files.rt:91:23
 below-requires-2 : tie.Need-below-requires-2 Inv-loop μ-loop
 below-requires-2 c κs = search needs
 
--- src/bad_files.rt:91:9
 to-32-requires-2 : tie.Need-to-32-requires-2 Inv-loop μ-loop
 to-32-requires-2 c κs = search needs
 
--- src/bad_files.rt:93:5
 loop-holds : tie.Need-loop-holds Inv-loop μ-loop
 loop-holds c = search needs
 
--- src/bad_files.rt:100:13
 ask-verdict-requires : tie.Need-ask-verdict-requires Inv-loop μ-loop
 ask-verdict-requires c κs = search needs
 
--- src/bad_files.rt:94:9
 compare-requires : tie.Need-compare-requires Inv-loop μ-loop
 compare-requires c κs = search needs
 
--- src/bad_files.rt:102:9
 add-question : tie.Need-add-question Inv-loop μ-loop
 add-question c = search needs
 
--- src/bad_files.rt:93:5
 loop-less : tie.Need-loop-less Inv-loop μ-loop
 loop-less c = search needs
 
--- src/bad_files.rt:93:5
 loop-again : tie.Need-loop-again Inv-loop μ-loop
 loop-again c = search needs
 
--- src/bad_files.rt:104:32
 below-requires-3 : tie.Need-below-requires-3 Inv-loop μ-loop
 below-requires-3 c κs = search needs
 
--- src/bad_files.rt:104:52
 below-requires-4 : tie.Need-below-requires-4 Inv-loop μ-loop
 below-requires-4 c κs = search needs
 
--- src/bad_files.rt:104:9
 position-of-requires : tie.Need-position-of-requires Inv-loop μ-loop
 position-of-requires c κs = search needs
 
--- src/bad_files.rt:111:39
 below-requires-5 : tie.Need-below-requires-5 Inv-loop μ-loop
 below-requires-5 c κs = search needs
 
--- src/bad_files.rt:111:9
 ask-advice-requires : tie.Need-ask-advice-requires Inv-loop μ-loop
 ask-advice-requires c κs = search needs
 
--- src/bad_files.rt:105:5
 compare-requires-2 : tie.Need-compare-requires-2 Inv-loop μ-loop
 compare-requires-2 c κs = search needs
 
--- src/bad_files.rt:119:9
 ask-away-requires : tie.Need-ask-away-requires Inv-loop μ-loop
 ask-away-requires c κs = search needs
 
--- src/bad_files.rt:113:5
 compare-requires-3 : tie.Need-compare-requires-3 Inv-loop μ-loop
 compare-requires-3 c κs = search needs
 
--- src/bad_files.rt:82:1
 returns : tie.Need-returns Inv-loop μ-loop
 returns c = search needs
 

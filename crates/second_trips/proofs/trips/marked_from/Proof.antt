@@ -1,10 +1,8 @@
+-- `second_trips::trips::marked_from` is safe and ends: what is left of the loop falls.
 use borrow.Author.Needs.{needs}
 use Prim.Native.Nat.{_-_}
 use Rattle.second_trips.proofs.trips.marked_from.Statement.{statement}
 use Rattle.second_trips.proofs.trips.marked_from.Tie as tie
-use Rattle.second_trips.proofs.trips.marked_from.Reads as reads
-use Rattle.second_trips.proofs.trips.marked_from.Lts as lts
-use Rattle.second_files.proofs.byte.Reads as byte-reads
 
 abbrev Inv-loop : tie.InvT-loop
 Inv-loop buffer from i₀ i = Unit
@@ -12,31 +10,24 @@ Inv-loop buffer from i₀ i = Unit
 abbrev μ-loop : tie.MeasureT-loop
 μ-loop buffer from i₀ i = 1040 - i
 
--- src/trips.rt:97:5
 loop-holds : tie.Need-loop-holds Inv-loop μ-loop
 loop-holds c = search needs
 
--- src/trips.rt:98:12
 byte-requires : tie.Need-byte-requires Inv-loop μ-loop
 byte-requires c κs = search needs
 
--- src/trips.rt:99:13
 returns : tie.Need-returns Inv-loop μ-loop
 returns c = search needs
 
--- src/trips.rt:101:9
 add-i : tie.Need-add-i Inv-loop μ-loop
 add-i c = search needs
 
--- src/trips.rt:97:5
 loop-less : tie.Need-loop-less Inv-loop μ-loop
 loop-less c = search needs
 
--- src/trips.rt:97:5
 loop-again : tie.Need-loop-again Inv-loop μ-loop
 loop-again c = search needs
 
--- src/trips.rt:95:1
 returns-2 : tie.Need-returns-2 Inv-loop μ-loop
 returns-2 c = search needs
 
