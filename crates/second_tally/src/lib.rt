@@ -1,8 +1,8 @@
 // Counts of what was compared, and the first difference.
 //
-// The tally's entries: 0 and 1 damaged files with one and two faults; 2, 3, 4 good cases, small, middle and large; 5 and 6 round trips; 7 and 8 games
-// played for the desk and for the away side; 9, 10 and 11 cases given up for room; 12 differences; from 16 refusals by number; from 32 answers, four for
-// each question.
+// The tally's entries: 0 and 1 damaged files with one and two faults; 2, 3, 4 good cases, small, middle and large; 5 and 6 round trips; 7 and 8
+// games played for the desk and for the away side; 9, 10 and 11 cases given up for room; 12 differences; from 16 refusals by number; from 32 answers,
+// four for each question.
 use second::Answer;
 use second_files::ROOM;
 use second_files::byte;
