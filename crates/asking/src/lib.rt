@@ -38,7 +38,7 @@ pub fn judge_position(board: &[u32; PLACES], people: u16, steps: u16, p: Positio
     if steps <= (len as u16) {
         return Judged::Refused(Refusal {
             number: 13,
-            place: steps,
+            place: steps as usize,
         });
     }
     let mut passed = Position::start();
@@ -48,7 +48,7 @@ pub fn judge_position(board: &[u32; PLACES], people: u16, steps: u16, p: Positio
         if bad_next(board, people, passed, v) {
             return Judged::Refused(Refusal {
                 number: 13,
-                place: i as u16,
+                place: i as usize,
             });
         }
         passed = passed.placed(v);

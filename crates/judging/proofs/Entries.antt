@@ -76,7 +76,7 @@ module _ (c : Case) (i : ℕ) {r : Bool} where
   unfolding ruleEntry
   rule-fails l e = e ∙ ap (badRule (c .counts)) (sym (entry-at zeroRule (c .counts .rules) (c .rules) i l))
 
--- ---- Places fit
+-- ---- No kind has more than 192 entries
 
 pub many-fit : (n : Counts) (k : Kind) → Limited n → manyOf n k ≤ 192
 many-fit n kinds.Held h = omega (arith, h .people)
@@ -84,13 +84,6 @@ many-fit n kinds.Named h = omega (arith, h .steps)
 many-fit n kinds.Order h = omega (arith, h .steps)
 many-fit n kinds.Row h = rows-fit n h
 many-fit n kinds.Rule h = omega (arith, h .rules)
-
-pub place-fits : (n : Counts) (k : Kind) (i : ℕ) → Limited n → i < manyOf n k → placeOf n k i < 65536
-place-fits n kinds.Held i h l = omega (arith, h .people)
-place-fits n kinds.Named i h l = omega (arith, h .people, h .steps)
-place-fits n kinds.Order i h l = omega (arith, h .people, h .steps)
-place-fits n kinds.Row i h l = omega (arith, h .people, h .steps, rows-fit n h)
-place-fits n kinds.Rule i h l = omega (arith, h .people, h .steps, h .rules, rows-fit n h)
 
 -- ---- The loop
 

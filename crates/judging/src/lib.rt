@@ -169,7 +169,7 @@ fn refuse(n: Counts, k: Kind, i: usize) -> Judged
 {
     Judged::Refused(Refusal {
         number: number(k),
-        place: place(n, k, i) as u16,
+        place: place(n, k, i),
     })
 }
 

@@ -9,7 +9,7 @@ ghost use Rattle.refusals.specs.Refusals.{refusal, judgedBy, orElse};
 // A refusal: its number in the scope's table, and its place.
 pub struct Refusal {
     pub number: u8,
-    pub place: u16,
+    pub place: usize,
 }
 
 // What judging gives: nothing is wrong, or the one refusal.
@@ -30,7 +30,7 @@ impl Judged {
     }
 
     // A single check: the refusal where the number is met.
-    pub fn refused_if(met: bool, number: u8, place: u16) -> Judged
+    pub fn refused_if(met: bool, number: u8, place: usize) -> Judged
         ensures { λ r. ⌜ r ≡ judgedBy (onlyIf met (refusal number place) ∷ []) ⌝ }
     {
         if met {

@@ -30,8 +30,8 @@ person-requires c κs = search needs
 bad-next-requires : tie.Need-bad-next-requires Inv-loop μ-loop
 bad-next-requires c κs = search needs
 
-cast-t14 : tie.Need-cast-t14 Inv-loop μ-loop
-cast-t14 c = search needs
+cast-t15 : tie.Need-cast-t15 Inv-loop μ-loop
+cast-t15 c = search needs
 
 returns-2 : tie.Need-returns-2 Inv-loop μ-loop
 returns-2 c =
@@ -71,7 +71,7 @@ judge-position-spec =
     loop-holds
     person-requires
     bad-next-requires
-    cast-t14
+    cast-t15
     returns-2
     placed-requires
     add-i

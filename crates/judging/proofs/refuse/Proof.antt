@@ -1,6 +1,6 @@
 use borrow.Author.Needs.{needs}
 use native.Mathlib.Omega.{arith}
-use Rattle.judging.proofs.Entries.{many-fit, place-fits}
+use Rattle.judging.proofs.Entries.{many-fit}
 use Rattle.judging.proofs.refuse.Statement.{statement}
 use Rattle.judging.proofs.refuse.Tie as tie
 
@@ -10,11 +10,8 @@ number-requires c κs = search needs
 place-requires : tie.Need-place-requires
 place-requires c κs = let a = c .before .args in omega (arith, many-fit (a .n) (a .k) (c .before .pre .0))
 
-cast-t6 : tie.Need-cast-t6
-cast-t6 c = let a = c .before .before .args in omega (arith, place-fits (a .n) (a .k) (a .i) (c .before .before .pre .0) (c .before .before .pre .1))
-
 returns : tie.Need-returns
 returns c = cc
 
 pub refuse-spec : {M : Type 1} → statement M
-refuse-spec = tie.close (tie.spec number-requires place-requires cast-t6 returns)
+refuse-spec = tie.close (tie.spec number-requires place-requires returns)
