@@ -1,19 +1,20 @@
 -- A walk's end as a call says it, and a tidied position.
-use mathlib.Core.Path.{_≡_, refl, sym, ap, ap₂, _∙_}
+use mathlib.Core.Path.{_≡_, sym, ap, ap₂, _∙_}
 use mathlib.Core.List.{List, map}
-use Prim.Native.Nat.{ℕ, _≤_, _<_}
+use Prim.Native.Nat.{ℕ, _≤_}
+use native.Mathlib.Omega.{arith}
 use lib.ListN.{length, getD}
+use lib.Seq.{ext-getD}
 use Rattle.sets.specs.Lists.{upto}
-use Rattle.sets.specs.Stored.{number, stored}
 use Rattle.sets.specs.declared.People.{People}
 use Rattle.sets.proofs.Records.{stored-number}
 use Rattle.cases.specs.Case.{mostSteps}
 use Rattle.cases.specs.Positions.{persons, zeroPerson}
 use Rattle.cases.specs.declared.Person.{Person}
 use Rattle.cases.specs.declared.Position.{Position}
-use Rattle.cases.proofs.Positions.{persons-length}
+use Rattle.cases.proofs.Positions.{upto-at, upto-many, persons-length}
 use Rattle.words.specs.Part.{Filled}
-use Rattle.words.proofs.Parts.{fill-start, fill-step, fill-end}
+use Rattle.words.proofs.Parts.{fill-end}
 use Rattle.walks.specs.declared.Verdict.the-variants as walked
 use Rattle.walks.specs.Outcomes.{verdictOutcome}
 use Rattle.planner.specs.declared.PlanSays.the-variants as plan
@@ -40,3 +41,12 @@ entryOf p i = personOf (getD (persons p) i 0)
 pub tidied-is : (p : Position) (l : List Person) (i : ℕ) → Filled (entryOf p) mostSteps i l → mostSteps ≤ i → record { who = l; len = p .len } ≡ positionOf (persons p)
 unfolding positionOf
 tidied-is p l i f h = ap₂ (λ w n. record { who = w; len = n }) (fill-end (entryOf p) mostSteps f h) (sym (persons-length p))
+
+-- the persons of the position of a list that fits
+pub persons-position : (q : List ℕ) → length q ≤ mostSteps → persons (positionOf q) ≡ q
+unfolding persons positionOf
+persons-position q h =
+    let long = upto-many (λ i. getD (map (λ i. personOf (getD q i 0)) (upto mostSteps)) i zeroPerson .0) (length q) in
+    ext-getD 0 (map (λ i. getD (map (λ i. personOf (getD q i 0)) (upto mostSteps)) i zeroPerson .0) (upto (length q))) q long
+    (λ i l. upto-at (λ i. getD (map (λ i. personOf (getD q i 0)) (upto mostSteps)) i zeroPerson .0) (length q) i 0 (omega arith)
+    ∙ ap (λ v. v .0) (upto-at (λ i. personOf (getD q i 0)) mostSteps i zeroPerson (omega arith)))

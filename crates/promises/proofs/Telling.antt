@@ -1,23 +1,19 @@
 -- What each public call tells, as its judgement and its walk under its limit give it.
-use mathlib.Core.Path.{_≡_, refl, sym, ap, ap₂, _∙_, subst}
+use mathlib.Core.Path.{_≡_, refl, sym, ap, _∙_}
 use mathlib.Core.Logic.{_↔_}
-use mathlib.Core.Option.{Option, none, some, Option·none-ne-some, Option·some-ne-none, Option·some-injective}
-use mathlib.Core.Bool.{Bool, true, false}
-use mathlib.Core.List.{List, [], _∷_, map}
-use Prim.Native.Nat.{ℕ, zero, suc, _≤_, _<_}
+use mathlib.Core.Option.{Option, none, some, Option·some-ne-none, Option·some-injective}
+use mathlib.Core.List.{List}
+use Prim.Native.Nat.{ℕ, _≤_, _<_}
 use native.Mathlib.Decide.{decLt}
 use native.Mathlib.Omega.{arith}
-use lib.ListN.{length, getD}
-use Rattle.sets.specs.Lists.{pick, upto}
+use lib.ListN.{length}
 use Rattle.sets.proofs.Records.{number-stored}
 use Rattle.games.specs.Walks.{Walk}
 use Rattle.games.specs.Limit.{Ended, limit, ended, Answer, stopped, whole, cut}
-use Rattle.games.proofs.Limits.{limit-ended, cut-within, cut-past, cut-limit, cut-ended, cut-trials}
+use Rattle.games.proofs.Limits.{cut-within, cut-past, cut-limit, cut-ended, cut-trials}
 use Rattle.cases.specs.declared.Case.{Case}
 use Rattle.cases.specs.Case.{mostSteps, steps}
 use Rattle.cases.specs.Chain.{planOf, adviceAt, awayAt}
-use Rattle.cases.specs.Positions.{persons, zeroPerson}
-use Rattle.cases.proofs.Positions.{upto-at, upto-many}
 use Rattle.cases.proofs.Answers.{plan-first-got}
 use Rattle.refusals.specs.declared.Refusal.{Refusal}
 use Rattle.refusals.specs.declared.Judged.{Judged}
@@ -26,10 +22,11 @@ use Rattle.refusals.specs.CaseChecks.{judgedCase}
 use Rattle.refusals.proofs.Cases.{good-limited}
 use Rattle.asking.specs.Asking.{judgedQuestion, judgedAdvice, judgedAway}
 use Rattle.planner.specs.declared.Question.{Question}
-use Rattle.planner.specs.Answers.{personOf, positionOf, planEnded, planAnswer, planGiven, verdictEnded, verdictGiven, adviceEnded, adviceGiven, awayEnded, awayGiven}
+use Rattle.planner.specs.Answers.{planGiven, verdictGiven, adviceGiven, awayGiven}
 use Rattle.planner.specs.Calls.{planCall, walkOf, questionCall, adviceCall, awayCall}
+use Rattle.planner.proofs.Sayings.{persons-position}
 use Rattle.planner.specs.Told.{Told, refused, answered, planTold, verdictTold, adviceTold, awayTold}
-use Rattle.promises.specs.Ends.{RefusedAt, SaysLimit, EndsAfter, Ends, Came}
+use Rattle.promises.specs.Ends.{SaysLimit, EndsAfter, Ends, Came}
 
 -- ---- a judgement, and what is answered where it is good
 
@@ -112,22 +109,6 @@ away-answers Good (ended (some A)) n = ap (λ x. answered (whole (record { got =
 pub away-told : (c : Case) (p : List ℕ) (t l : ℕ) → awayTold (awayCall c p t l) ≡ told (judgedAway c p t) (cut l (awayAt c t p))
 unfolding awayCall
 away-told c p t l = away-answers (judgedAway c p t) (cut l (awayAt c t p) .out) (cut l (awayAt c t p) .count)
-
--- lists as long, with the same entries
-list-same : (xs ys : List ℕ) → length xs ≡ length ys → ((i : ℕ) → i < length xs → getD xs i 0 ≡ getD ys i 0) → xs ≡ ys
-list-same [] [] l e = refl
-list-same [] (y ∷ ys) l e = absurd (omega arith)
-list-same (x ∷ xs) [] l e = absurd (omega arith)
-list-same (x ∷ xs) (y ∷ ys) l e = ap₂ _∷_ (e 0 (omega arith)) (list-same xs ys (omega arith) (λ i h. e (suc i) (omega arith)))
-
--- the persons of the position of a list that fits
-persons-position : (q : List ℕ) → length q ≤ mostSteps → persons (positionOf q) ≡ q
-unfolding persons positionOf
-persons-position q h =
-    let long = upto-many (λ i. getD (map (λ i. personOf (getD q i 0)) (upto mostSteps)) i zeroPerson .0) (length q) in
-    list-same (map (λ i. getD (map (λ i. personOf (getD q i 0)) (upto mostSteps)) i zeroPerson .0) (upto (length q))) q long
-    (λ i l. upto-at (λ i. getD (map (λ i. personOf (getD q i 0)) (upto mostSteps)) i zeroPerson .0) (length q) i 0 (omega arith)
-    ∙ ap (λ v. v .0) (upto-at (λ i. personOf (getD q i 0)) mostSteps i zeroPerson (omega arith)))
 
 plan-answers : (j : Judged) (o : Ended (Option (List ℕ))) (n : ℕ) → ((q : List ℕ) → j ≡ Good → o ≡ ended (some q) → length q ≤ mostSteps)
     → planTold (planGiven j (record { out = o; count = n })) ≡ told j (record { out = o; count = n })

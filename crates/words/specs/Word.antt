@@ -1,11 +1,15 @@
 -- Little-endian numbers of a list of bytes. Past the end every byte is 0.
-use Prim.Native.Nat.{ℕ, _+_, _*_, _/_, _%_}
+use Prim.Native.Nat.{ℕ, _+_, _*_, _/_, _%_, _<_}
 use mathlib.Core.List.{List, [], _∷_}
 use lib.ListN.{getD}
 
 -- byte i
 abbrev pub byte : List ℕ → ℕ → ℕ
 byte s i = getD s i 0
+
+-- each is a byte, as in every lent slice of bytes
+abbrev pub AllBytes : List ℕ → Type 0
+AllBytes s = (i : ℕ) → byte s i < 256
 
 -- the 16-bit number at place i
 abbrev pub word : List ℕ → ℕ → ℕ
