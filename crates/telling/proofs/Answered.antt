@@ -8,6 +8,7 @@ use Rattle.cases.specs.Chain.{planOf}
 use Rattle.cases.specs.Case.{emptyCase}
 use Rattle.refusals.specs.declared.Judged.{Judged}
 use Rattle.refusals.specs.declared.Judged.the-variants.{Good, Refused}
+use Rattle.refusals.specs.declared.Refusal.{Refusal}
 use Rattle.refusals.specs.Refusals.{judgedBy, orElse}
 use Rattle.refusals.specs.CaseChecks.{judgedCase}
 use Rattle.refusals.proofs.Order.{good-refused}
@@ -21,25 +22,30 @@ use Rattle.planner.specs.declared.Question.{Question}
 use Rattle.planner.specs.Answers.{planAnswer, verdictAnswer}
 use Rattle.planner.specs.Calls.{planCall, questionCall, walkOf}
 use Rattle.planner.proofs.Answering.{plan-answered, question-answered}
-use Rattle.telling.specs.Telling.{textOf, told, sixLines, judgedInput, absentIn, limitIn, fileIn}
+use Rattle.telling.specs.Telling.{refusedLine, textOf, told, sixLines, judgedInput, absentIn, limitIn, fileIn}
 
 both-good : (j k : Judged) → orElse j k ≡ Good → (j ≡ Good) × (k ≡ Good)
 both-good Good k e = (refl, e)
 both-good (Refused r) k e = absurd (good-refused e refl)
 
+-- The text of a refused input is the one line of its refusal.
+pub refused-text : (input : List ℕ) (r : Refusal) → judgedInput input ≡ Refused r → textOf input ≡ refusedLine r
+unfolding textOf
+refused-text input r e = ap (λ (j : Judged). told j (sixLines (readOf (fileIn input) .held) (absentIn input) (limitIn input))) e
+
 module _ (input : List ℕ) (good : judgedInput input ≡ Good) where
   -- the case that is asked about
-  abbrev asked : Case
+  abbrev pub asked : Case
   asked = caseOf (fileIn input)
 
   file-good : judgedFile (fileIn input) ≡ Good
   unfolding judgedInput readOf
   file-good = both-good _ _ good .0
 
-  case-good : judgedCase asked ≡ Good
+  pub case-good : judgedCase asked ≡ Good
   case-good = sym (right-header (fileIn input) (good-header (fileIn input) file-good)) ∙ file-good
 
-  question-is-good : judgedQuestion asked (absentIn input) ≡ Good
+  pub question-is-good : judgedQuestion asked (absentIn input) ≡ Good
   unfolding judgedInput readOf
   question-is-good =
       question-order asked (absentIn input)

@@ -31,6 +31,6 @@ digits-read (suc k) n h = go (ltb n 10) (digits-read k (n / 10) less)
     go true e = omega arith
     go false e = read-snoc 0 (digits k (n / 10)) (digit (n % 10)) ∙ omega (arith, e)
 
--- Every number of the program has at most 32 bits.
-pub decimal-read : (n : ℕ) → n < 2 ^ 32 → readFrom 0 (decimal n) ≡ n
-decimal-read n h = digits-read 10 n (omega arith)
+-- Every number of the program has at most 64 bits.
+pub decimal-read : (n : ℕ) → n < 2 ^ 64 → readFrom 0 (decimal n) ≡ n
+decimal-read n h = digits-read 20 n (omega arith)

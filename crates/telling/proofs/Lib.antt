@@ -2,10 +2,10 @@
 pub mod Growing
 pub mod Lists
 pub mod Sayings
--- Every text fits, and is held.
-pub mod Fits
-pub mod Writing
 -- Theorems about the text: numbers, good input, longer and shorter input.
 pub mod Decimal
 pub mod Answered
 pub mod Longer
+-- Every text fits, and is held.
+pub mod Fits
+pub mod Writing

@@ -11,6 +11,7 @@ use Rattle.refusals.specs.declared.Judged.{Judged}
 use Rattle.refusals.specs.declared.Judged.the-variants.{Good, Refused}
 use Rattle.refusals.specs.declared.Refusal.{Refusal}
 use Rattle.refusals.specs.Refusals.{judgedBy, orElse}
+use Rattle.words.specs.Word.{AllBytes}
 use Rattle.asking.specs.Asking.{numberCheck}
 use Rattle.files.specs.declared.FileRead.{FileRead}
 use Rattle.files.specs.Reading.{readOf}
@@ -75,24 +76,24 @@ input-judged input f t j k ef et ek ej =
     (ej
     ∙ ap₂ orElse (ap (λ (x : FileRead). x .judged) ef) (ek ∙ ap (λ (n : ℕ). judgedBy (numberCheck n ∷ [])) et))
 
-text-held : (input : List ℕ) (x : Text) → x ≡ put (held []) (textOf input) → x ≡ held (textOf input)
-text-held input x e = e ∙ held-put [] (textOf input) (omega (arith, text-fits input))
+text-held : (input : List ℕ) (x : Text) → AllBytes input → x ≡ put (held []) (textOf input) → x ≡ held (textOf input)
+text-held input x b e = e ∙ held-put [] (textOf input) (omega (arith, text-fits input b))
 
-pub told-refused : (input : List ℕ) (r : Refusal) (x₀ x : Text) → judgedInput input ≡ Refused r → x₀ ≡ held [] → x ≡ put x₀ (refusedLine r)
-    → x ≡ held (textOf input)
+pub told-refused : (input : List ℕ) (r : Refusal) (x₀ x : Text) → AllBytes input → judgedInput input ≡ Refused r → x₀ ≡ held []
+    → x ≡ put x₀ (refusedLine r) → x ≡ held (textOf input)
 unfolding textOf
-told-refused input r x₀ x e h f =
-    text-held input x
+told-refused input r x₀ x b e h f =
+    text-held input x b
     (f
     ∙ ap (λ (y : Text). put y (refusedLine r)) h
     ∙ ap (λ (j : Judged). put (held []) (told j (sixLines (readOf (fileIn input) .held) (absentIn input) (limitIn input)))) (sym e))
 
-pub told-good : (input : List ℕ) (f : FileRead) (t l : ℕ) (x : Text) → judgedInput input ≡ Good → f ≡ readOf (fileIn input) → t ≡ absentIn input
-    → l ≡ limitIn input → x ≡ put (held []) (sixLines (f .held) t l) → x ≡ held (textOf input)
+pub told-good : (input : List ℕ) (f : FileRead) (t l : ℕ) (x : Text) → AllBytes input → judgedInput input ≡ Good → f ≡ readOf (fileIn input)
+    → t ≡ absentIn input → l ≡ limitIn input → x ≡ put (held []) (sixLines (f .held) t l) → x ≡ held (textOf input)
 unfolding textOf
-told-good input f t l x e ef et el h =
+told-good input f t l x b e ef et el h =
     let lines : sixLines (f .held) t l ≡ sixLines (readOf (fileIn input) .held) (absentIn input) (limitIn input) = cc in
-    text-held input x
+    text-held input x b
     (h
     ∙ ap (put (held [])) lines
     ∙ ap (λ (j : Judged). put (held []) (told j (sixLines (readOf (fileIn input) .held) (absentIn input) (limitIn input)))) (sym e))

@@ -20,9 +20,9 @@ unfoldable pub digits : ℕ → ℕ → List ℕ
 digits zero n = []
 digits (suc k) n = pick (ltb n 10) (digit n ∷ []) (digits k (n / 10) ++ (digit (n % 10) ∷ []))
 
--- A number has at most 32 bits, so ten digits are enough.
+-- A number has at most 64 bits, so twenty digits are enough.
 abbrev pub decimal : ℕ → List ℕ
-decimal n = digits 10 n
+decimal n = digits 20 n
 
 -- words, with one space before each
 unfoldable pub spaced : List (List ℕ) → List ℕ

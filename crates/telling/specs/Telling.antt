@@ -72,14 +72,16 @@ verdictLine name a = line name (verdictWords a)
 unfoldable pub refusedLine : Refusal → List ℕ
 refusedLine r = line (bytes "refused") (refused r)
 
+-- the counts, what is asked, and what each call says
+abbrev pub linesOf : Counts → ℕ → ℕ → PlanAnswer → VerdictAnswer → VerdictAnswer → VerdictAnswer → List ℕ
+linesOf n t l p s e d =
+    caseLine n
+    ++ (askedLine t l
+    ++ (planLine p ++ (verdictLine (bytes "static") s ++ (verdictLine (bytes "decremental") e ++ verdictLine (bytes "dynamic") d))))
+
 -- the six lines for a case
 unfoldable pub sixLines : Case → ℕ → ℕ → List ℕ
-sixLines c t l =
-    caseLine (c .counts)
-    ++ (askedLine t l
-    ++ (planLine (planCall c l)
-    ++ (verdictLine (bytes "static") (staticCall c t l)
-    ++ (verdictLine (bytes "decremental") (decrementalCall c t l) ++ verdictLine (bytes "dynamic") (dynamicCall c t l)))))
+sixLines c t l = linesOf (c .counts) t l (planCall c l) (staticCall c t l) (decrementalCall c t l) (dynamicCall c t l)
 
 -- a refusal is the only line
 abbrev pub told : Judged → List ℕ → List ℕ

@@ -23,20 +23,23 @@ pub fn put_case(text: Text, n: Counts) -> Text
     ensures { λ r. ⌜ r ≡ put text (caseLine n) ⌝ }
 {
     let entries = text.put(b"case")
-        .put_number(n.people as u32)
-        .put_number(n.steps as u32);
+        .put_number(n.people as u64)
+        .put_number(n.steps as u64);
     let rest = entries
-        .put_number(n.roles as u32)
-        .put_number(n.tables as u32);
-    rest.put_number(n.rules as u32).put_byte(b'\n')
+        .put_number(n.roles as u64)
+        .put_number(n.tables as u64);
+    rest.put_number(n.rules as u64).put_byte(b'\n')
 }
 
 // t and the limit.
 pub fn put_asked(text: Text, t: u32, limit: u32) -> Text
     ensures { λ r. ⌜ r ≡ put text (askedLine t limit) ⌝ }
 {
-    let absent = text.put(b"absent").put_number(t);
-    absent.put(b" limit").put_number(limit).put_byte(b'\n')
+    let absent = text.put(b"absent").put_number(t as u64);
+    absent
+        .put(b" limit")
+        .put_number(limit as u64)
+        .put_byte(b'\n')
 }
 
 // What the plan call said.
@@ -77,15 +80,15 @@ pub fn put_refusal(text: Text, refusal: Refusal) -> Text
 fn end_refused(text: Text, refusal: Refusal) -> Text
     ensures { λ r. ⌜ r ≡ put text (spaced (refused refusal) ++ (10 ∷ [])) ⌝ }
 {
-    let numbered = text.put_number(refusal.number as u32).put(b" at");
-    numbered.put_number(refusal.place as u32).put_byte(b'\n')
+    let numbered = text.put_number(refusal.number as u64).put(b" at");
+    numbered.put_number(refusal.place as u64).put_byte(b'\n')
 }
 
 // The end of a line that shows trials.
 fn end_trials(text: Text, n: u32) -> Text
     ensures { λ r. ⌜ r ≡ put text (spaced (trials n) ++ (10 ∷ [])) ⌝ }
 {
-    text.put(b" trials").put_number(n).put_byte(b'\n')
+    text.put(b" trials").put_number(n as u64).put_byte(b'\n')
 }
 
 // The persons of a position by step, or `none`.
@@ -104,7 +107,7 @@ fn each_person(text: Text, p: Position) -> Text
     let mut longer = text;
     let mut i: u8 = 0;
     while i < p.len {
-        longer = longer.put_number(p.person(i).0 as u32);
+        longer = longer.put_number(p.person(i).0 as u64);
         i += 1;
     }
     longer
@@ -137,7 +140,7 @@ fn put_member(text: Text, set: People, v: u8) -> Text
     ensures { λ r. ⌜ r ≡ put text (spaced (map decimal (consIf (has (number set) v) v []))) ⌝ }
 {
     if set.has(v) {
-        return text.put_number(v as u32);
+        return text.put_number(v as u64);
     }
     text
 }

@@ -13,7 +13,7 @@ pub struct Text {
 
 impl Text {
     // No text of the program is longer.
-    pub const ROOM: usize = 1560;
+    pub const ROOM: usize = 444;
 
     // Nothing is written yet.
     pub fn empty() -> Text
@@ -53,14 +53,14 @@ impl Text {
     }
 
     // A space and a number.
-    pub fn put_number(self, n: u32) -> Text
+    pub fn put_number(self, n: u64) -> Text
         ensures { λ r. ⌜ r ≡ Held·put self (32 ∷ decimal n) ⌝ }
     {
-        self.put_byte(b' ').put_digits(n, 10)
+        self.put_byte(b' ').put_digits(n, 20)
     }
 
     // A number of at most `most` digits.
-    fn put_digits(self, n: u32, most: u8) -> Text
+    fn put_digits(self, n: u64, most: u8) -> Text
         ensures { λ r. ⌜ r ≡ Held·put self (digits most n) ⌝ }
     {
         if most == 0 {

@@ -1,4 +1,6 @@
 use mathlib.Core.Path.{_∙_}
+use native.Mathlib.Omega.{arith}
+use Rattle.words.specs.Word.{AllBytes}
 use Rattle.telling.proofs.Writing.{input-judged, told-refused, told-good}
 use borrow.Author.Needs.{needs}
 use Rattle.telling.proofs.tell.Statement.{statement}
@@ -39,20 +41,24 @@ six-lines-requires c κs = search needs
 
 returns : tie.Need-returns
 returns c =
+    let lent = c .before .before .before .before .before .before .before .before .before .before in
+    let bytes : AllBytes (lent .before .args .input .now) = λ i. omega (arith, lent .shared-slice-known .given i) in
     let t = c .before .before .before .before .before .before .before .before .before .word-at .ensures in
     let file = c .before .before .before .before .before .before .before .read-file .ensures in
     let twelve = c .before .before .before .before .before .before .judge-number .ensures in
     let judged = input-judged _ _ _ _ _ file t twelve (c .before .before .before .before .before .or-else .ensures) in
-    told-refused _ _ _ _ (judged ∙ c .before .before .before .refusal .given .1) (c .before .empty .ensures) (c .put-refusal .ensures)
+    told-refused _ _ _ _ bytes (judged ∙ c .before .before .before .refusal .given .1) (c .before .empty .ensures) (c .put-refusal .ensures)
 
 returns-2 : tie.Need-returns-2
 returns-2 c =
+    let lent = c .before .before .before .before .before .before .before .before in
+    let bytes : AllBytes (lent .before .args .input .now) = λ i. omega (arith, lent .shared-slice-known .given i) in
     let t = c .before .before .before .before .before .before .before .word-at .ensures in
     let file = c .before .before .before .before .before .read-file .ensures in
     let twelve = c .before .before .before .before .judge-number .ensures in
     let judged = input-judged _ _ _ _ _ file t twelve (c .before .before .before .or-else .ensures) in
     let limit = c .before .before .before .before .before .before .long-at .ensures in
-    told-good _ _ _ _ _ (judged ∙ c .before .enum-told .given .1) file t limit (c .six-lines .ensures)
+    told-good _ _ _ _ _ bytes (judged ∙ c .before .enum-told .given .1) file t limit (c .six-lines .ensures)
 
 pub tell-spec : {M : Type 1} → statement M
 tell-spec =

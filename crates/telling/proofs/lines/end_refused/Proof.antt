@@ -18,9 +18,6 @@ slice-aggregate-put c = search needs
 put-requires : tie.Need-put-requires
 put-requires c κs = search needs
 
-cast-put-number-2 : tie.Need-cast-put-number-2
-cast-put-number-2 c = search needs
-
 put-number-requires-2 : tie.Need-put-number-requires-2
 put-number-requires-2 c κs = search needs
 
@@ -30,8 +27,8 @@ put-byte-requires c κs = search needs
 returns : tie.Need-returns
 unfolding spaced
 returns c =
-    let numbered = c .before .before .before .before .before .put-number .ensures in
-    let worded = then-put _ _ _ _ numbered _ (c .before .before .before .put .ensures) in
+    let numbered = c .before .before .before .before .put-number .ensures in
+    let worded = then-put _ _ _ _ numbered _ (c .before .before .put .ensures) in
     let placed = then-put _ _ _ _ worded _ (c .before .put-number2 .ensures) in
     put-same _ _ _ _ (then-byte _ _ _ _ placed _ (c .put-byte .ensures)) (simp (append-assoc, append-nil))
 
@@ -43,7 +40,6 @@ end-refused-spec =
     put-number-requires
     slice-aggregate-put
     put-requires
-    cast-put-number-2
     put-number-requires-2
     put-byte-requires
     returns)
