@@ -6,3 +6,4 @@ pub mod Again
 pub mod Good
 pub mod Refused
 pub mod Trips
+pub mod Campfire

@@ -10,7 +10,7 @@ use Rattle.refusals.specs.declared.Judged.the-variants.{Good}
 use Rattle.refusals.specs.Offsets.{totalOf}
 use Rattle.refusals.specs.CaseChecks.{judgedCase}
 use Rattle.refusals.proofs.Cases.{limited}
-use Rattle.words.specs.Word.{word}
+use Rattle.words.specs.Word.{AllBytes, word}
 use Rattle.words.specs.Part.{table}
 use Rattle.layout.specs.Layout.{headWords, countsOf, caseOf, caseAt, fileOf}
 use Rattle.layout.proofs.Lengths.{file-long}
@@ -22,7 +22,7 @@ use Rattle.files.proofs.Nothing.{read-good}
 use Rattle.writing.specs.declared.Written.the-variants.{Bytes}
 use Rattle.writing.specs.Writing.{writeAnswer, written, told}
 use Rattle.writing.proofs.Judged.{good-write, good-leaves}
-use Rattle.trips.specs.Trips.{frontOf, WrittenThenRead, ReadThenWritten, AllBytes}
+use Rattle.trips.specs.Trips.{frontOf, WrittenThenRead, ReadThenWritten}
 use Rattle.trips.proofs.Back.{case-back}
 use Rattle.trips.proofs.Again.{file-again}
 use Rattle.trips.proofs.Good.{file-good, held-good}

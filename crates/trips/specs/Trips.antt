@@ -2,14 +2,13 @@
 -- `judgedFile`, and `read` answers `readOf`.
 use mathlib.Core.Path.{_≡_}
 use mathlib.Core.List.{List, _++_}
-use Prim.Native.Nat.{ℕ, _<_}
+use Prim.Native.Nat.{ℕ}
 use lib.ListN.{length, take, drop}
 use Rattle.cases.specs.declared.Case.{Case}
 use Rattle.cases.specs.Case.{zeroed}
 use Rattle.refusals.specs.declared.Refusal.{Refusal}
 use Rattle.refusals.specs.declared.Judged.the-variants.{Good}
 use Rattle.refusals.specs.Offsets.{totalOf}
-use Rattle.words.specs.Word.{byte}
 use Rattle.files.specs.Checks.{judgedFile}
 use Rattle.files.specs.Reading.{readOf}
 use Rattle.writing.specs.Writing.{writeAnswer, written, told}
@@ -35,7 +34,3 @@ pub record ReadThenWritten (buffer f : List ℕ) : Type 0 where
 pub record LeftAlone (buffer : List ℕ) (c : Case) (r : Refusal) : Type 0 where
   pub same : written buffer c ≡ buffer
   pub only : told (writeAnswer (length buffer) c) ≡ record { number = r .number; place = r .place; bytes = 0 }
-
--- each is a byte, as in every lent slice of bytes
-abbrev pub AllBytes : List ℕ → Type 0
-AllBytes f = (i : ℕ) → byte f i < 256
