@@ -2,7 +2,8 @@
 use mathlib.Core.Path.{_≡_, sym, ap, ap₂, _∙_}
 use mathlib.Core.Bool.{Bool, true, false}
 use mathlib.Core.List.{List, _++_, append-nil}
-use Prim.Native.Nat.{ℕ, _+_, _<_}
+use Prim.Native.Nat.{ℕ, _+_, _*_, _<_}
+use native.Mathlib.Omega.{arith}
 use borrow.Author.Tests.{eq-eqb, ne-eqb}
 use lib.Dec.{eqb}
 use lib.ListN.{getD}
@@ -35,8 +36,10 @@ module _ (b : List ℕ) (p : Position) (k s x : ℕ) where
   pair-next e f = pair-as true true (eq-eqb s (p .len) e) (eq-eqb x (p .len) f)
 
   module _ (v : ℕ) (w : v ≡ getD (persons p) x 0) (f : x ≡ p .len → ⊥) where
-    pub pair-column : s ≡ p .len → setAt b (columnPlace k v) ≡ pairOn b (persons p) k s x
-    pair-column e = ap (λ (z : ℕ). setAt b (columnPlace k z)) w ∙ pair-as true false (eq-eqb s (p .len) e) (ne-eqb x (p .len) f)
+    pub pair-column : s ≡ p .len → setAt b (256 + k * 32 + v) ≡ pairOn b (persons p) k s x
+    pair-column e =
+        let q : 256 + k * 32 + v ≡ columnPlace k (getD (persons p) x 0) = omega arith in
+        ap (setAt b) q ∙ pair-as true false (eq-eqb s (p .len) e) (ne-eqb x (p .len) f)
 
     pub pair-filled : (u r : ℕ) → u ≡ getD (persons p) s 0 → r ≡ setAt b (rowPlace k u) → (s ≡ p .len → ⊥)
         → setOf (λ y. has r v) width ≡ pairOn b (persons p) k s x

@@ -83,16 +83,18 @@ fn pair(board: &[u32; PLACES], p: Position, rule: Rule, x: Step) -> People
     ensures { λ r. ⌜ number r ≡ pairOn (now (board .entry)) (persons p) (rule .relation) (rule .step .0) (x .0) ⌝ }
 {
     let k = rule.relation as usize;
+    let rows = k * 32;
+    let columns = COLUMNS + rows;
     let s = rule.step.0;
     let of_x = p.person(x.0).0;
     if s == p.len {
         if x.0 == p.len {
             return People::at(board, LOOPS + k);
         }
-        return People::at(board, COLUMNS + (k * 32 + (of_x as usize)));
+        return People::at(board, columns + (of_x as usize));
     }
     let of_s = p.person(s).0;
-    let row = People::at(board, k * 32 + (of_s as usize));
+    let row = People::at(board, rows + (of_s as usize));
     if x.0 == p.len {
         return row;
     }

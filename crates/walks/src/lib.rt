@@ -205,7 +205,8 @@ pub fn dynamic_walk(
                 return Verdict::No(shown, trials);
             }
             Try::Person(v, trials) => {
-                match dynamic_walk(board, people, t, p.placed(v), left - 1, limit - trials) {
+                let sub = dynamic_walk(board, people, t, p.placed(v), left - 1, limit - trials);
+                match sub {
                     Verdict::Limit => {
                         return Verdict::Limit;
                     }

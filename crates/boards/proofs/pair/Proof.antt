@@ -10,6 +10,12 @@ use Rattle.boards.proofs.pair.Tie as tie
 cast-k : tie.Need-cast-k
 cast-k c = search needs
 
+mul-rows : tie.Need-mul-rows
+mul-rows c = search needs
+
+add-columns : tie.Need-add-columns
+add-columns c = search needs
+
 person-requires : tie.Need-person-requires
 person-requires c κs = search needs
 
@@ -22,17 +28,11 @@ at-requires c κs = search needs
 returns : tie.Need-returns
 returns c = c .at .ensures ∙ pair-next _ _ _ _ _ (c .before .before .before .before .before .if1 .taken) (c .before .before .if2 .taken)
 
-mul-at : tie.Need-mul-at
-mul-at c = search needs
-
 cast-at : tie.Need-cast-at
 cast-at c = search needs
 
 add-at-2 : tie.Need-add-at-2
 add-at-2 c = search needs
-
-add-at-3 : tie.Need-add-at-3
-add-at-3 c = search needs
 
 at-requires-2 : tie.Need-at-requires-2
 at-requires-2 c κs = search needs
@@ -44,14 +44,11 @@ returns-2 c = c .at2 .ensures ∙ pair-column _ _ _ _ _ _ (c .before .before .be
 person-requires-2 : tie.Need-person-requires-2
 person-requires-2 c κs = search needs
 
-mul-at-2 : tie.Need-mul-at-2
-mul-at-2 c = search needs
-
 cast-at-2 : tie.Need-cast-at-2
 cast-at-2 c = search needs
 
-add-at-4 : tie.Need-add-at-4
-add-at-4 c = search needs
+add-at-3 : tie.Need-add-at-3
+add-at-3 c = search needs
 
 at-requires-3 : tie.Need-at-requires-3
 at-requires-3 c κs = search needs
@@ -79,20 +76,19 @@ pair-spec =
     tie.close
     (tie.spec
     cast-k
+    mul-rows
+    add-columns
     person-requires
     add-at
     at-requires
     returns
-    mul-at
     cast-at
     add-at-2
-    add-at-3
     at-requires-2
     returns-2
     person-requires-2
-    mul-at-2
     cast-at-2
-    add-at-4
+    add-at-3
     at-requires-3
     returns-3
     has-requires

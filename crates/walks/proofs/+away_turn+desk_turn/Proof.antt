@@ -1,5 +1,5 @@
 -- The two turns of the decremental game call for each other until no step is left.
-use mathlib.Core.Path.{_≡_, refl, sym, ap, _∙_}
+use mathlib.Core.Path.{refl, sym, ap, _∙_}
 use mathlib.Core.Option.{none}
 use native.Mathlib.Omega.{arith}
 use borrow.Author.Needs.{needs}
@@ -77,7 +77,7 @@ away-turn-sub-desk-turn : (t : ℕ) → away-turn-lts.Need-sub-desk-turn (away-t
 away-turn-sub-desk-turn t c = omega (arith, c .loop .inv .enough)
 
 away-turn-desk-turn-requires : (t : ℕ) → away-turn-lts.Need-desk-turn-requires (away-turn-calls t) (away-turn-at t) away-turn.Post away-turn-Inv-loop away-turn-μ-loop
-away-turn-desk-turn-requires t c κs = (omega arith, (above-zero (c .before .if1 .left), c .before .before .pre .1 .0, c .before .before .pre .1 .1, sweep-known (c .loop .inv), sweep-few (c .loop .inv)))
+away-turn-desk-turn-requires t c κs = (omega arith, (above-zero (c .before .if1 .left), c .before .before .pre .1 .0, c .before .before .pre .1 .1, omega (arith, sweep-known (c .loop .inv)), omega (arith, sweep-few (c .loop .inv))))
 
 away-turn-enum-told : (t : ℕ) → away-turn-lts.Need-enum-told (away-turn-calls t) (away-turn-at t) away-turn.Post away-turn-Inv-loop away-turn-μ-loop
 away-turn-enum-told t c = search needs
@@ -160,7 +160,7 @@ desk-turn-sub-away-turn-2 : (t : ℕ) → desk-turn-lts.Need-sub-away-turn-2 (de
 desk-turn-sub-away-turn-2 t c = omega (arith, (try-person (c .before .before .before .before .before .loop .inv) _ _ (sym (ap tryOutcome (c .before .before .v .given .1)) ∙ c .before .before .before .before .next-try .ensures)) .enough)
 
 desk-turn-away-turn-requires : (t : ℕ) → desk-turn-lts.Need-away-turn-requires (desk-turn-calls t) (desk-turn-at t) desk-turn.Post desk-turn-Inv-loop desk-turn-μ-loop
-desk-turn-away-turn-requires t c κs = (omega (arith, c .before .before .before .before .before .before .before .pre .1 .0), (placed-fits _ _ _ _ (c .placed .ensures .1) (c .before .before .before .before .before .before .before .pre .1 .1) (some-left (c .before .before .before .before .before .before .before .pre .1 .0)), c .before .before .before .before .before .before .before .pre .1 .2, c .before .before .before .before .before .before .before .pre .1 .3, c .before .before .before .before .before .before .before .pre .1 .4))
+desk-turn-away-turn-requires t c κs = (omega (arith, c .before .before .before .before .before .before .before .pre .1 .0), (omega (arith, placed-fits _ _ _ _ (c .placed .ensures .1) (c .before .before .before .before .before .before .before .pre .1 .1) (some-left (c .before .before .before .before .before .before .before .pre .1 .0))), c .before .before .before .before .before .before .before .pre .1 .2, c .before .before .before .before .before .before .before .pre .1 .3, c .before .before .before .before .before .before .before .pre .1 .4))
 
 desk-turn-enum-told-2 : (t : ℕ) → desk-turn-lts.Need-enum-told-2 (desk-turn-calls t) (desk-turn-at t) desk-turn.Post desk-turn-Inv-loop desk-turn-μ-loop
 desk-turn-enum-told-2 t c = search needs

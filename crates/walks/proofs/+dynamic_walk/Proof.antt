@@ -1,5 +1,5 @@
 -- The dynamic walk calls itself on the position one step longer: the number of steps left falls.
-use mathlib.Core.Path.{_≡_, refl, sym, ap, _∙_}
+use mathlib.Core.Path.{refl, sym, ap, _∙_}
 use mathlib.Core.Option.{none}
 use native.Mathlib.Omega.{arith}
 use borrow.Author.Needs.{needs}
@@ -112,11 +112,11 @@ dynamic-walk-enum-told-2 t c = search needs
 dynamic-walk-returns-4 : (t : ℕ) → dynamic-walk-lts.Need-returns-4 (dynamic-walk-calls t) (dynamic-walk-at t) dynamic-walk.Post dynamic-walk-Inv-loop dynamic-walk-μ-loop
 dynamic-walk-returns-4 t c = sub-limit (try-person (c .before .before .before .before .before .before .before .before .loop .inv .0) _ _ (sym (ap tryOutcome (c .before .before .before .before .before .v .given .1)) ∙ c .before .before .before .before .before .before .before .next-try .ensures)) (sym (ap (verdictOutcome _) (c .enum-told2 .given .1)) ∙ (rw (placed-persons _ _ _ (c .before .before .before .placed .ensures .1) (room _ _ (c .before .before .before .before .before .before .before .before .before .before .before .before .before .pre .1 .0) (c .before .before .before .before .before .before .before .before .before .before .before .before .if1 .left))) at (c .before .before .dynamic-walk .ensures)))
 
-dynamic-walk-enum-known-more : (t : ℕ) → dynamic-walk-lts.Need-enum-known-more (dynamic-walk-calls t) (dynamic-walk-at t) dynamic-walk.Post dynamic-walk-Inv-loop dynamic-walk-μ-loop
-dynamic-walk-enum-known-more t c = search needs
+dynamic-walk-enum-known-sub : (t : ℕ) → dynamic-walk-lts.Need-enum-known-sub (dynamic-walk-calls t) (dynamic-walk-at t) dynamic-walk.Post dynamic-walk-Inv-loop dynamic-walk-μ-loop
+dynamic-walk-enum-known-sub t c = search needs
 
 dynamic-walk-add-used : (t : ℕ) → dynamic-walk-lts.Need-add-used (dynamic-walk-calls t) (dynamic-walk-at t) dynamic-walk.Post dynamic-walk-Inv-loop dynamic-walk-μ-loop
-dynamic-walk-add-used t c = omega (arith, c .before .before .before .before .before .before .before .before .before .before .before .before .before .before .fits .limit .fits, sub-within (try-person (c .before .before .before .before .before .before .before .before .before .loop .inv .0) _ _ (sym (ap tryOutcome (c .before .before .before .before .before .before .v .given .1)) ∙ c .before .before .before .before .before .before .before .before .next-try .ensures)) _ _ (sym (ap (verdictOutcome _) (c .before .more .given .1)) ∙ (rw (placed-persons _ _ _ (c .before .before .before .before .placed .ensures .1) (room _ _ (c .before .before .before .before .before .before .before .before .before .before .before .before .before .before .pre .1 .0) (c .before .before .before .before .before .before .before .before .before .before .before .before .before .if1 .left))) at (c .before .before .before .dynamic-walk .ensures))))
+dynamic-walk-add-used t c = omega (arith, c .before .before .before .before .before .before .before .before .before .before .before .before .before .before .fits .limit .fits, sub-within (try-person (c .before .before .before .before .before .before .before .before .before .loop .inv .0) _ _ (sym (ap tryOutcome (c .before .before .before .before .before .before .v .given .1)) ∙ c .before .before .before .before .before .before .before .before .next-try .ensures)) _ _ (sym (ap (verdictOutcome _) (c .before .sub .given .1)) ∙ (rw (placed-persons _ _ _ (c .before .before .before .before .placed .ensures .1) (room _ _ (c .before .before .before .before .before .before .before .before .before .before .before .before .before .before .pre .1 .0) (c .before .before .before .before .before .before .before .before .before .before .before .before .before .if1 .left))) at (c .before .before .before .dynamic-walk .ensures))))
 
 dynamic-walk-behind-requires : (t : ℕ) → dynamic-walk-lts.Need-behind-requires (dynamic-walk-calls t) (dynamic-walk-at t) dynamic-walk.Post dynamic-walk-Inv-loop dynamic-walk-μ-loop
 dynamic-walk-behind-requires t c κs = tt
@@ -126,18 +126,18 @@ dynamic-walk-loop-less t c = rw (c .behind .ensures .1) ((try-person (c .before 
 
 dynamic-walk-loop-again : (t : ℕ) → dynamic-walk-lts.Need-loop-again (dynamic-walk-calls t) (dynamic-walk-at t) dynamic-walk.Post dynamic-walk-Inv-loop dynamic-walk-μ-loop
 dynamic-walk-loop-again t c = (
-  rw (c .behind .ensures .0, c .behind .ensures .1) (sub-on (try-person (c .before .before .before .before .before .before .before .before .before .before .loop .inv .0) _ _ (sym (ap tryOutcome (c .before .before .before .before .before .before .before .v .given .1)) ∙ c .before .before .before .before .before .before .before .before .before .next-try .ensures)) _ _ (sym (ap (verdictOutcome _) (c .before .before .more .given .1)) ∙ (rw (placed-persons _ _ _ (c .before .before .before .before .before .placed .ensures .1) (room _ _ (c .before .before .before .before .before .before .before .before .before .before .before .before .before .before .before .pre .1 .0) (c .before .before .before .before .before .before .before .before .before .before .before .before .before .before .if1 .left))) at (c .before .before .before .before .dynamic-walk .ensures))) _ refl),
+  rw (c .behind .ensures .0, c .behind .ensures .1) (sub-on (try-person (c .before .before .before .before .before .before .before .before .before .before .loop .inv .0) _ _ (sym (ap tryOutcome (c .before .before .before .before .before .before .before .v .given .1)) ∙ c .before .before .before .before .before .before .before .before .before .next-try .ensures)) _ _ (sym (ap (verdictOutcome _) (c .before .before .sub .given .1)) ∙ (rw (placed-persons _ _ _ (c .before .before .before .before .before .placed .ensures .1) (room _ _ (c .before .before .before .before .before .before .before .before .before .before .before .before .before .before .before .pre .1 .0) (c .before .before .before .before .before .before .before .before .before .before .before .before .before .before .if1 .left))) at (c .before .before .before .before .dynamic-walk .ensures))) _ refl),
   rw (c .behind .ensures .0) (shown-same _ (c .before .before .before .before .before .before .before .before .before .before .loop .inv .1)),
 )
 
-dynamic-walk-enum-known-more-2 : (t : ℕ) → dynamic-walk-lts.Need-enum-known-more-2 (dynamic-walk-calls t) (dynamic-walk-at t) dynamic-walk.Post dynamic-walk-Inv-loop dynamic-walk-μ-loop
-dynamic-walk-enum-known-more-2 t c = search needs
+dynamic-walk-enum-known-sub-2 : (t : ℕ) → dynamic-walk-lts.Need-enum-known-sub-2 (dynamic-walk-calls t) (dynamic-walk-at t) dynamic-walk.Post dynamic-walk-Inv-loop dynamic-walk-μ-loop
+dynamic-walk-enum-known-sub-2 t c = search needs
 
 dynamic-walk-add-t24 : (t : ℕ) → dynamic-walk-lts.Need-add-t24 (dynamic-walk-calls t) (dynamic-walk-at t) dynamic-walk.Post dynamic-walk-Inv-loop dynamic-walk-μ-loop
-dynamic-walk-add-t24 t c = omega (arith, c .before .before .before .before .before .before .before .before .before .before .before .before .before .before .before .fits .limit .fits, sub-within (try-person (c .before .before .before .before .before .before .before .before .before .before .loop .inv .0) _ _ (sym (ap tryOutcome (c .before .before .before .before .before .before .before .v .given .1)) ∙ c .before .before .before .before .before .before .before .before .before .next-try .ensures)) _ _ (sym (ap (verdictOutcome _) (c .before .before .more2 .given .1)) ∙ (rw (placed-persons _ _ _ (c .before .before .before .before .before .placed .ensures .1) (room _ _ (c .before .before .before .before .before .before .before .before .before .before .before .before .before .before .before .pre .1 .0) (c .before .before .before .before .before .before .before .before .before .before .before .before .before .before .if1 .left))) at (c .before .before .before .before .dynamic-walk .ensures))))
+dynamic-walk-add-t24 t c = omega (arith, c .before .before .before .before .before .before .before .before .before .before .before .before .before .before .before .fits .limit .fits, sub-within (try-person (c .before .before .before .before .before .before .before .before .before .before .loop .inv .0) _ _ (sym (ap tryOutcome (c .before .before .before .before .before .before .before .v .given .1)) ∙ c .before .before .before .before .before .before .before .before .before .next-try .ensures)) _ _ (sym (ap (verdictOutcome _) (c .before .before .sub2 .given .1)) ∙ (rw (placed-persons _ _ _ (c .before .before .before .before .before .placed .ensures .1) (room _ _ (c .before .before .before .before .before .before .before .before .before .before .before .before .before .before .before .pre .1 .0) (c .before .before .before .before .before .before .before .before .before .before .before .before .before .before .if1 .left))) at (c .before .before .before .before .dynamic-walk .ensures))))
 
 dynamic-walk-returns-5 : (t : ℕ) → dynamic-walk-lts.Need-returns-5 (dynamic-walk-calls t) (dynamic-walk-at t) dynamic-walk.Post dynamic-walk-Inv-loop dynamic-walk-μ-loop
-dynamic-walk-returns-5 t c = sub-done (try-person (c .before .before .before .before .before .before .before .before .before .before .loop .inv .0) _ _ (sym (ap tryOutcome (c .before .before .before .before .before .before .before .v .given .1)) ∙ c .before .before .before .before .before .before .before .before .before .next-try .ensures)) _ _ (sym (ap (verdictOutcome _) (c .before .before .more2 .given .1)) ∙ (rw (placed-persons _ _ _ (c .before .before .before .before .before .placed .ensures .1) (room _ _ (c .before .before .before .before .before .before .before .before .before .before .before .before .before .before .before .pre .1 .0) (c .before .before .before .before .before .before .before .before .before .before .before .before .before .before .if1 .left))) at (c .before .before .before .before .dynamic-walk .ensures))) _ (enough-found _ _ _ _ (c .if2 .taken))
+dynamic-walk-returns-5 t c = sub-done (try-person (c .before .before .before .before .before .before .before .before .before .before .loop .inv .0) _ _ (sym (ap tryOutcome (c .before .before .before .before .before .before .before .v .given .1)) ∙ c .before .before .before .before .before .before .before .before .before .next-try .ensures)) _ _ (sym (ap (verdictOutcome _) (c .before .before .sub2 .given .1)) ∙ (rw (placed-persons _ _ _ (c .before .before .before .before .before .placed .ensures .1) (room _ _ (c .before .before .before .before .before .before .before .before .before .before .before .before .before .before .before .pre .1 .0) (c .before .before .before .before .before .before .before .before .before .before .before .before .before .before .if1 .left))) at (c .before .before .before .before .dynamic-walk .ensures))) _ (enough-found _ _ _ _ (c .if2 .taken))
 
 dynamic-walk-add-found : (t : ℕ) → dynamic-walk-lts.Need-add-found (dynamic-walk-calls t) (dynamic-walk-at t) dynamic-walk.Post dynamic-walk-Inv-loop dynamic-walk-μ-loop
 dynamic-walk-add-found t c = omega (arith, c .before .before .before .before .before .before .before .before .before .before .before .before .before .before .before .fits .t .fits, c .before .before .before .before .before .before .before .before .before .before .loop .inv .1 .few)
@@ -146,7 +146,7 @@ dynamic-walk-with-requires : (t : ℕ) → dynamic-walk-lts.Need-with-requires (
 dynamic-walk-with-requires t c κs = tt
 
 dynamic-walk-add-used-2 : (t : ℕ) → dynamic-walk-lts.Need-add-used-2 (dynamic-walk-calls t) (dynamic-walk-at t) dynamic-walk.Post dynamic-walk-Inv-loop dynamic-walk-μ-loop
-dynamic-walk-add-used-2 t c = omega (arith, c .before .before .before .before .before .before .before .before .before .before .before .before .before .before .before .before .fits .limit .fits, sub-within (try-person (c .before .before .before .before .before .before .before .before .before .before .before .loop .inv .0) _ _ (sym (ap tryOutcome (c .before .before .before .before .before .before .before .before .v .given .1)) ∙ c .before .before .before .before .before .before .before .before .before .before .next-try .ensures)) _ _ (sym (ap (verdictOutcome _) (c .before .before .before .more2 .given .1)) ∙ (rw (placed-persons _ _ _ (c .before .before .before .before .before .before .placed .ensures .1) (room _ _ (c .before .before .before .before .before .before .before .before .before .before .before .before .before .before .before .before .pre .1 .0) (c .before .before .before .before .before .before .before .before .before .before .before .before .before .before .before .if1 .left))) at (c .before .before .before .before .before .dynamic-walk .ensures))))
+dynamic-walk-add-used-2 t c = omega (arith, c .before .before .before .before .before .before .before .before .before .before .before .before .before .before .before .before .fits .limit .fits, sub-within (try-person (c .before .before .before .before .before .before .before .before .before .before .before .loop .inv .0) _ _ (sym (ap tryOutcome (c .before .before .before .before .before .before .before .before .v .given .1)) ∙ c .before .before .before .before .before .before .before .before .before .before .next-try .ensures)) _ _ (sym (ap (verdictOutcome _) (c .before .before .before .sub2 .given .1)) ∙ (rw (placed-persons _ _ _ (c .before .before .before .before .before .before .placed .ensures .1) (room _ _ (c .before .before .before .before .before .before .before .before .before .before .before .before .before .before .before .before .pre .1 .0) (c .before .before .before .before .before .before .before .before .before .before .before .before .before .before .before .if1 .left))) at (c .before .before .before .before .before .dynamic-walk .ensures))))
 
 dynamic-walk-behind-requires-2 : (t : ℕ) → dynamic-walk-lts.Need-behind-requires-2 (dynamic-walk-calls t) (dynamic-walk-at t) dynamic-walk.Post dynamic-walk-Inv-loop dynamic-walk-μ-loop
 dynamic-walk-behind-requires-2 t c κs = tt
@@ -158,7 +158,7 @@ dynamic-walk-loop-again-2 : (t : ℕ) → dynamic-walk-lts.Need-loop-again-2 (dy
 dynamic-walk-loop-again-2 t c =
     let y = (try-person (c .before .before .before .before .before .before .before .before .before .before .before .before .loop .inv .0) _ _ (sym (ap tryOutcome (c .before .before .before .before .before .before .before .before .before .v .given .1)) ∙ c .before .before .before .before .before .before .before .before .before .before .before .next-try .ensures)) in (
       rw (c .behind2 .ensures .0, c .behind2 .ensures .1)
-          (sub-on y _ _ (sym (ap (verdictOutcome _) (c .before .before .before .before .more2 .given .1)) ∙ (rw (placed-persons _ _ _ (c .before .before .before .before .before .before .before .placed .ensures .1) (room _ _ (c .before .before .before .before .before .before .before .before .before .before .before .before .before .before .before .before .before .pre .1 .0) (c .before .before .before .before .before .before .before .before .before .before .before .before .before .before .before .before .if1 .left))) at (c .before .before .before .before .before .before .dynamic-walk .ensures))) _ (one-found _ _ _ _ _ (c .before .before .if2 .left) (shown-sum (c .before .before .before .before .before .before .before .before .before .before .before .before .loop .inv .1) _ _ (y .known) (y .listed) (c .before .with .ensures)))),
+          (sub-on y _ _ (sym (ap (verdictOutcome _) (c .before .before .before .before .sub2 .given .1)) ∙ (rw (placed-persons _ _ _ (c .before .before .before .before .before .before .before .placed .ensures .1) (room _ _ (c .before .before .before .before .before .before .before .before .before .before .before .before .before .before .before .before .before .pre .1 .0) (c .before .before .before .before .before .before .before .before .before .before .before .before .before .before .before .before .if1 .left))) at (c .before .before .before .before .before .before .dynamic-walk .ensures))) _ (one-found _ _ _ _ _ (c .before .before .if2 .left) (shown-sum (c .before .before .before .before .before .before .before .before .before .before .before .before .loop .inv .1) _ _ (y .known) (y .listed) (c .before .with .ensures)))),
       rw (c .behind2 .ensures .0) (shown-more (c .before .before .before .before .before .before .before .before .before .before .before .before .loop .inv .1) _ _ (y .known) (y .listed) (c .before .with .ensures) (c .before .before .if2 .left)),
     )
 
@@ -185,12 +185,12 @@ pub +dynamic-walk-spec : {M : Type 1} → statement M
     (dynamic-walk-dynamic-walk-requires t)
     (dynamic-walk-enum-told-2 t)
     (dynamic-walk-returns-4 t)
-    (dynamic-walk-enum-known-more t)
+    (dynamic-walk-enum-known-sub t)
     (dynamic-walk-add-used t)
     (dynamic-walk-behind-requires t)
     (dynamic-walk-loop-less t)
     (dynamic-walk-loop-again t)
-    (dynamic-walk-enum-known-more-2 t)
+    (dynamic-walk-enum-known-sub-2 t)
     (dynamic-walk-add-t24 t)
     (dynamic-walk-returns-5 t)
     (dynamic-walk-add-found t)
