@@ -1,9 +1,11 @@
 -- The record that stores a set of people. Only this file and src/ know how.
 use mathlib.Core.Option.{Option, none, some}
 use mathlib.Core.List.{List}
-use Prim.Native.Nat.{ℕ}
+use Prim.Native.Nat.{ℕ, _+_, _*_, _/_, _%_, _^_}
 use lib.ListN.{getD}
 use Rattle.sets.specs.declared.People.{People}
+use Rattle.sets.specs.declared.Wide.{Wide}
+use Rattle.sets.specs.declared.Wide.the-variants as wide
 use Rattle.sets.specs.declared.Next.{Next}
 use Rattle.sets.specs.declared.Next.the-variants as next
 use Rattle.sets.specs.declared.Lowest.{Lowest}
@@ -38,3 +40,20 @@ nextNumber next.Nothing = none
 abbrev pub lowestNumber : Lowest → Option ℕ
 lowestNumber (lowest.Person v) = some v
 lowestNumber lowest.Nobody = none
+
+-- ---- A set as two words of 64 bits, the low one first
+
+abbrev pub lowWord : ℕ → ℕ
+lowWord s = s % 2 ^ 64
+
+abbrev pub highWord : ℕ → ℕ
+highWord s = s / 2 ^ 64
+
+-- the set that two words write
+abbrev pub fromWords : ℕ → ℕ → ℕ
+fromWords low high = high * 2 ^ 64 + low
+
+-- what `from_words` answers: nothing where some member is past the width
+abbrev pub wideNumber : Wide → Option ℕ
+wideNumber (wide.Set s) = some (number s)
+wideNumber wide.Past = none

@@ -11,7 +11,7 @@ ghost use Prim.Native.Nat.{min, _+_, _^_};
 ghost use lib.Dec.{leb, ltb, eqb};
 ghost use Rattle.sets.specs.Lists.{pick, onlyIf};
 ghost use Rattle.sets.specs.Sets.{has, setOf, size, within, meets, past, lowest, with, without, common, joined, difference, everybody, sizeBefore, after, nextSet};
-ghost use Rattle.sets.specs.Stored.{width, number, stored, noPeople, setAt, nextNumber, lowestNumber};
+ghost use Rattle.sets.specs.Stored.{width, number, stored, noPeople, setAt, nextNumber, lowestNumber, lowWord, highWord, fromWords, wideNumber};
 pub use small::holds;
 pub use small::lowest_in;
 pub use small::past;
@@ -29,6 +29,12 @@ pub struct People {
 pub enum Next {
     Set(People),
     Nothing,
+}
+
+// The set that two words write, where it has no member past the width.
+pub enum Wide {
+    Set(People),
+    Past,
 }
 
 // The lowest member of a set.
@@ -71,6 +77,33 @@ impl People {
         ensures { λ r. ⌜ r ≡ number self ⌝ }
     {
         self.bits
+    }
+
+    // The set that two words of 64 bits write, the low one first; or that it has a member past the width.
+    pub fn from_words(low: u64, high: u64) -> Wide
+        ensures { λ r. ⌜ wideNumber r ≡ onlyIf (ltb (fromWords low high) (2 ^ width)) (fromWords low high) ⌝ }
+    {
+        if high != 0 {
+            return Wide::Past;
+        }
+        if 4294967296 <= low {
+            return Wide::Past;
+        }
+        Wide::Set(People { bits: low as u32 })
+    }
+
+    // The low word of the two that write the set.
+    pub fn low(self) -> u64
+        ensures { λ r. ⌜ r ≡ lowWord (number self) ⌝ }
+    {
+        self.bits as u64
+    }
+
+    // The high word: no set has a member past the low one's 64.
+    pub fn high(self) -> u64
+        ensures { λ r. ⌜ r ≡ highWord (number self) ⌝ }
+    {
+        0
     }
 
     // The set at place i of words that store one set each; nobody past its end.
