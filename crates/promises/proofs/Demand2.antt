@@ -1,4 +1,4 @@
--- Demand 2: plans and verdicts are those of the report, and "limit" is said exactly if the stated walk needs more trials than allowed. In each theorem
+-- Demand 2: plans and verdicts are those of the report (docs/SCOPE.md names it), and "limit" is said exactly if the stated walk needs more trials than allowed. In each theorem
 -- the call ends within its limit: it tells b after some trials.
 use mathlib.Core.Path.{_≡_, refl, sym, ap, _∙_, subst}
 use mathlib.Core.Logic.{_↔_}

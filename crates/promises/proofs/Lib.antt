@@ -1,4 +1,4 @@
--- The promises, in the order of the tender's demands.
+-- The promises, in the order of the customer's demands (docs/PROMISES.md).
 pub mod Telling
 pub mod Accepting
 pub mod Demand1

@@ -5,8 +5,9 @@ use mathlib.Core.Path.{_≡_, refl, sym, ap, _∙_}
 use mathlib.Core.Option.{Option, none, some}
 use Prim.Native.Nat.{ℕ}
 use denote.Ref.{now}
-use Rattle.sets.specs.Stored.{number, stored, nextNumber, lowestNumber}
-use Rattle.sets.specs.declared.People.{People}
+use Rattle.sets.specs.Stored.{stored, wideNumber, nextNumber, lowestNumber}
+use Rattle.sets.specs.declared.Wide.{Wide}
+use Rattle.sets.specs.declared.Wide.the-variants as wide
 use Rattle.sets.specs.declared.Next.{Next}
 use Rattle.sets.specs.declared.Next.the-variants as next
 use Rattle.sets.specs.declared.Lowest.{Lowest}
@@ -24,6 +25,9 @@ use Rattle.sets.proofs.People.none.Reads as people-none-reads
 use Rattle.sets.proofs.People.everybody.Reads as people-everybody-reads
 use Rattle.sets.proofs.People.from_word.Reads as people-from-word-reads
 use Rattle.sets.proofs.People.word.Reads as people-word-reads
+use Rattle.sets.proofs.People.from_words.Reads as people-from-words-reads
+use Rattle.sets.proofs.People.low.Reads as people-low-reads
+use Rattle.sets.proofs.People.high.Reads as people-high-reads
 use Rattle.sets.proofs.People.at.Reads as people-at-reads
 use Rattle.sets.proofs.People.has.Reads as people-has-reads
 use Rattle.sets.proofs.People.with.Reads as people-with-reads
@@ -102,14 +106,14 @@ use Rattle.telling.proofs.put_asked.Reads as put-asked-reads
 use Rattle.telling.proofs.put_plan.Reads as put-plan-reads
 use Rattle.telling.proofs.put_verdict.Reads as put-verdict-reads
 use Rattle.telling.proofs.put_refusal.Reads as put-refusal-reads
-use Rattle.exports.proofs.rodcrank_judge.Reads as rodcrank-judge-reads
-use Rattle.exports.proofs.rodcrank_plan.Reads as rodcrank-plan-reads
-use Rattle.exports.proofs.rodcrank_static.Reads as rodcrank-static-reads
-use Rattle.exports.proofs.rodcrank_decremental.Reads as rodcrank-decremental-reads
-use Rattle.exports.proofs.rodcrank_dynamic.Reads as rodcrank-dynamic-reads
-use Rattle.exports.proofs.rodcrank_advice.Reads as rodcrank-advice-reads
-use Rattle.exports.proofs.rodcrank_away.Reads as rodcrank-away-reads
-use Rattle.exports.proofs.rodcrank_verdicts.Reads as rodcrank-verdicts-reads
+use Rattle.rodcrank.proofs.rodcrank_judge.Reads as rodcrank-judge-reads
+use Rattle.rodcrank.proofs.rodcrank_plan.Reads as rodcrank-plan-reads
+use Rattle.rodcrank.proofs.rodcrank_static.Reads as rodcrank-static-reads
+use Rattle.rodcrank.proofs.rodcrank_decremental.Reads as rodcrank-decremental-reads
+use Rattle.rodcrank.proofs.rodcrank_dynamic.Reads as rodcrank-dynamic-reads
+use Rattle.rodcrank.proofs.rodcrank_advice.Reads as rodcrank-advice-reads
+use Rattle.rodcrank.proofs.rodcrank_away.Reads as rodcrank-away-reads
+use Rattle.rodcrank.proofs.rodcrank_verdicts.Reads as rodcrank-verdicts-reads
 
 -- ---- What an answer says fixes it
 
@@ -123,6 +127,17 @@ lowest-same r s e = sym (back r) ∙ ap lowest-back e ∙ back s
     back : (x : Lowest) → lowest-back (lowestNumber x) ≡ x
     back lowest.Nobody = refl
     back (lowest.Person v) = refl
+
+abbrev wide-back : Option ℕ → Wide
+wide-back none = wide.Past
+wide-back (some s) = wide.Set (stored s)
+
+wide-same : (r s : Wide) → wideNumber r ≡ wideNumber s → r ≡ s
+wide-same r s e = sym (back r) ∙ ap wide-back e ∙ back s
+  where
+    back : (x : Wide) → wide-back (wideNumber x) ≡ x
+    back wide.Past = refl
+    back (wide.Set p) = ap wide.Set (stored-number p)
 
 abbrev next-back : Option ℕ → Next
 next-back none = next.Nothing
@@ -175,6 +190,15 @@ people-from-word-one κs args r s x y p q = p ∙ sym q
 
 pub people-word-one : (κs : _) (args : _) (r s : _) (x y : _) → people-word-reads.Post κs args r x → people-word-reads.Post κs args s y → r ≡ s
 people-word-one κs args r s x y p q = p ∙ sym q
+
+pub people-from-words-one : (κs : _) (args : _) (r s : _) (x y : _) → people-from-words-reads.Post κs args r x → people-from-words-reads.Post κs args s y → r ≡ s
+people-from-words-one κs args r s x y p q = wide-same r s (p ∙ sym q)
+
+pub people-low-one : (κs : _) (args : _) (r s : _) (x y : _) → people-low-reads.Post κs args r x → people-low-reads.Post κs args s y → r ≡ s
+people-low-one κs args r s x y p q = p ∙ sym q
+
+pub people-high-one : (κs : _) (args : _) (r s : _) (x y : _) → people-high-reads.Post κs args r x → people-high-reads.Post κs args s y → r ≡ s
+people-high-one κs args r s x y p q = p ∙ sym q
 
 pub people-at-one : (κs : _) (args : _) (r s : _) (x y : _) → people-at-reads.Post κs args r x → people-at-reads.Post κs args s y → r ≡ s
 people-at-one κs args r s x y p q = number-injective r s (p ∙ sym q)
@@ -436,7 +460,7 @@ put-verdict-one κs args r s x y p q = p ∙ sym q
 pub put-refusal-one : (κs : _) (args : _) (r s : _) (x y : _) → put-refusal-reads.Post κs args r x → put-refusal-reads.Post κs args s y → r ≡ s
 put-refusal-one κs args r s x y p q = p ∙ sym q
 
--- ---- `exports`: The calls for other languages
+-- ---- `rodcrank`: The calls for other languages
 
 pub rodcrank-judge-one : (κs : _) (args : _) (r s : _) (x y : _) → rodcrank-judge-reads.Post κs args r x → rodcrank-judge-reads.Post κs args s y → now (x .1 .0) ≡ now (y .1 .0)
 rodcrank-judge-one κs args r s x y p q = p ∙ sym q
@@ -453,7 +477,7 @@ rodcrank-decremental-one κs args r s x y p q = p ∙ sym q
 pub rodcrank-dynamic-one : (κs : _) (args : _) (r s : _) (x y : _) → rodcrank-dynamic-reads.Post κs args r x → rodcrank-dynamic-reads.Post κs args s y → now (x .1 .1 .1 .0) ≡ now (y .1 .1 .1 .0)
 rodcrank-dynamic-one κs args r s x y p q = p ∙ sym q
 
-pub rodcrank-advice-one : (κs : _) (args : _) (r s : _) (x y : _) → rodcrank-advice-reads.Post κs args r x → rodcrank-advice-reads.Post κs args s y → now (x .1 .1 .1 .1 .1 .0) ≡ now (y .1 .1 .1 .1 .1 .0)
+pub rodcrank-advice-one : (κs : _) (args : _) (r s : _) (x y : _) → rodcrank-advice-reads.Post κs args r x → rodcrank-advice-reads.Post κs args s y → now (x .1 .1 .1 .1 .1 .1 .0) ≡ now (y .1 .1 .1 .1 .1 .1 .0)
 rodcrank-advice-one κs args r s x y p q = p ∙ sym q
 
 pub rodcrank-away-one : (κs : _) (args : _) (r s : _) (x y : _) → rodcrank-away-reads.Post κs args r x → rodcrank-away-reads.Post κs args s y → now (x .1 .1 .1 .1 .0) ≡ now (y .1 .1 .1 .1 .0)

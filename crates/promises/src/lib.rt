@@ -1,1 +1,1 @@
-// The promises: theorems about what the public calls return, in the tender's words. There is no code here.
+// The promises: theorems about what the public calls return, in the words of the customer's demands (docs/PROMISES.md). There is no code here.

@@ -1,3 +1,0 @@
--- What the calls' proofs use.
-pub mod Fronts
-pub mod Replying

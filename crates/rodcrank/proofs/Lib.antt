@@ -1,0 +1,5 @@
+-- What the calls' proofs use.
+pub mod Entries
+pub mod Fronts
+pub mod Replying
+pub mod Texts
