@@ -1,10 +1,10 @@
 // Advice and away, from the cells of the dynamic question, and what is turned away before them.
-use crate::games::Answer;
-use crate::games::try_people;
+use crate::tries::Answer;
+use crate::tries::member;
+use crate::tries::try_people;
 use second_files::ROOM;
 use second_files::Turned;
 use second_files::down;
-use second_files::has;
 use second_files::people;
 use second_files::plus;
 use second_files::size;
@@ -72,18 +72,6 @@ pub fn advice(slate: &[usize; SLATE], node: usize, absent: usize) -> Answer {
         shown: member(t.good),
         trials: t.trials,
     }
-}
-
-// The member of a set of one.
-fn member(set: usize) -> usize {
-    let mut v: usize = 0;
-    while v < 64 {
-        if has(set, v) {
-            return v;
-        }
-        v += 1;
-    }
-    0
 }
 
 // All people who leave a good position, if they are at most t.

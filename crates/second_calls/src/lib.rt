@@ -41,7 +41,7 @@ pub fn limit_of(x: usize) -> u32 {
 }
 
 fn refusal_told(r: Refusal) -> Answer {
-    told(3, wide_8(r.number), wide_16(r.place))
+    told(3, wide_8(r.number), r.place)
 }
 
 // What the second search turns away, as an answer.

@@ -6,12 +6,22 @@ use crate::numbers::times;
 // Room for the longest file, and for some bytes too many.
 pub const ROOM: usize = 1040;
 
+// The first n bytes.
+pub fn first(file: &[u8], n: usize) -> &[u8] {
+    if n <= file.len() { &file[0..n] } else { file }
+}
+
 pub fn byte(file: &[u8; ROOM], at: usize) -> usize {
     if at < 1040 { wide(file[at]) } else { 0 }
 }
 
-fn wide(x: u8) -> usize {
+pub fn wide(x: u8) -> usize {
     x as usize
+}
+
+// The lowest byte of a number.
+pub fn to_8(x: usize) -> u8 {
+    (x % 256) as u8
 }
 
 pub fn word(file: &[u8; ROOM], at: usize) -> usize {
@@ -24,7 +34,7 @@ pub fn long(file: &[u8; ROOM], at: usize) -> usize {
 
 pub fn put_byte(file: &mut [u8; ROOM], at: usize, x: usize) {
     if at < 1040 {
-        file[at] = (x % 256) as u8;
+        file[at] = to_8(x);
     }
 }
 

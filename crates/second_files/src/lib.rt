@@ -3,11 +3,12 @@
 //
 // Nothing is promised here but safety. A file is the first `length` bytes of an array; what stands past them is never asked for.
 mod bytes;
-mod judging;
 mod numbers;
+mod turned;
 
 pub use bytes::ROOM;
 pub use bytes::byte;
+pub use bytes::first;
 pub use bytes::long;
 pub use bytes::people;
 pub use bytes::person_at;
@@ -21,11 +22,10 @@ pub use bytes::rules;
 pub use bytes::step_at;
 pub use bytes::steps;
 pub use bytes::tables;
+pub use bytes::to_8;
 pub use bytes::total;
+pub use bytes::wide;
 pub use bytes::word;
-pub use judging::Turned;
-pub use judging::judged;
-pub use judging::turned_by;
 pub use numbers::down;
 pub use numbers::has;
 pub use numbers::minus;
@@ -34,3 +34,6 @@ pub use numbers::set_of;
 pub use numbers::size;
 pub use numbers::times;
 pub use numbers::up;
+pub use turned::Turned;
+pub use turned::judged;
+pub use turned::turned_by;

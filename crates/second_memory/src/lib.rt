@@ -8,11 +8,9 @@ use cases::Step;
 use cases::StepEntry;
 use second_draws::below;
 use second_files::ROOM;
-use second_files::byte;
 use second_files::long;
 use second_files::people;
 use second_files::person_at;
-use second_files::plus;
 use second_files::roles;
 use second_files::row_at;
 use second_files::rule_at;
@@ -21,13 +19,10 @@ use second_files::step_at;
 use second_files::steps;
 use second_files::tables;
 use second_files::times;
+use second_files::to_8;
 use second_files::word;
 use second_positions::person_of;
 use sets::People;
-
-pub fn to_8(x: usize) -> u8 {
-    (x % 256) as u8
-}
 
 pub fn to_16(x: usize) -> u16 {
     (x % 65536) as u16

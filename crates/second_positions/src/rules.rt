@@ -11,6 +11,7 @@ use second_files::plus;
 use second_files::row_at;
 use second_files::rule_at;
 use second_files::rules;
+use second_files::set_of;
 use second_files::step_at;
 use second_files::steps;
 use second_files::times;
@@ -52,6 +53,34 @@ pub fn keeps(file: &[u8; ROOM], who: usize, length: usize) -> bool {
         r += 1;
     }
     true
+}
+
+// The steps among the first `length` that a rule names which is not filled yet.
+pub fn asked_later(file: &[u8; ROOM], length: usize) -> usize {
+    let n = rules(file);
+    let mut named = 0;
+    let mut r: usize = 0;
+    while r < n {
+        let at = rule_at(file, r);
+        if !is_filled(file, at, length) {
+            named = named | set_of(byte(file, plus(at, 2))) | byte(file, plus(at, 3));
+        }
+        r += 1;
+    }
+    minus(named, up(down(named, length), length))
+}
+
+// The persons of these steps alone.
+pub fn only(who: usize, steps: usize) -> usize {
+    let mut kept = 0;
+    let mut x: usize = 0;
+    while x < 8 {
+        if has(steps, x) {
+            kept = placed(kept, x, person_of(who, x));
+        }
+        x += 1;
+    }
+    kept
 }
 
 // Are the rule's step and all of its set X among the first `length` steps?

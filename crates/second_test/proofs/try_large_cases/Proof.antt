@@ -8,13 +8,16 @@ abbrev Inv-loop : tie.InvT-loop
 Inv-loop seed₀ slate₀ tally₀ i₀ seed slate tally i = Unit
 
 abbrev μ-loop : tie.MeasureT-loop
-μ-loop seed₀ slate₀ tally₀ i₀ seed slate tally i = 120 - i
+μ-loop seed₀ slate₀ tally₀ i₀ seed slate tally i = 480 - i
 
 loop-holds : tie.Need-loop-holds Inv-loop μ-loop
 loop-holds c = search needs
 
-try-large-case-requires : tie.Need-try-large-case-requires Inv-loop μ-loop
-try-large-case-requires c κs = search needs
+large-requires : tie.Need-large-requires Inv-loop μ-loop
+large-requires c κs = search needs
+
+try-drawn-requires : tie.Need-try-drawn-requires Inv-loop μ-loop
+try-drawn-requires c κs = search needs
 
 add-i : tie.Need-add-i Inv-loop μ-loop
 add-i c = search needs
@@ -35,7 +38,8 @@ try-large-cases-spec =
     Inv-loop
     μ-loop
     loop-holds
-    try-large-case-requires
+    large-requires
+    try-drawn-requires
     add-i
     loop-less
     loop-again

@@ -13,8 +13,11 @@ abbrev μ-loop : tie.MeasureT-loop
 loop-holds : tie.Need-loop-holds Inv-loop μ-loop
 loop-holds c = search needs
 
-try-small-case-requires : tie.Need-try-small-case-requires Inv-loop μ-loop
-try-small-case-requires c κs = search needs
+small-requires : tie.Need-small-requires Inv-loop μ-loop
+small-requires c κs = search needs
+
+try-drawn-requires : tie.Need-try-drawn-requires Inv-loop μ-loop
+try-drawn-requires c κs = search needs
 
 add-i : tie.Need-add-i Inv-loop μ-loop
 add-i c = search needs
@@ -35,7 +38,8 @@ try-small-cases-spec =
     Inv-loop
     μ-loop
     loop-holds
-    try-small-case-requires
+    small-requires
+    try-drawn-requires
     add-i
     loop-less
     loop-again

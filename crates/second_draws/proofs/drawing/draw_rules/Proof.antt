@@ -5,10 +5,10 @@ use Rattle.second_draws.proofs.drawing.draw_rules.Statement.{statement}
 use Rattle.second_draws.proofs.drawing.draw_rules.Tie as tie
 
 abbrev Inv-loop : tie.InvT-loop
-Inv-loop seed₀ file₀ n r₀ seed file r = Unit
+Inv-loop seed₀ file₀ reach mild n r₀ seed file r = Unit
 
 abbrev μ-loop : tie.MeasureT-loop
-μ-loop seed₀ file₀ n r₀ seed file r = n - r
+μ-loop seed₀ file₀ reach mild n r₀ seed file r = n - r
 
 rules-requires : tie.Need-rules-requires Inv-loop μ-loop
 rules-requires c κs = search needs

@@ -5,10 +5,10 @@ use Rattle.second_draws.proofs.drawing.draw_steps.Statement.{statement}
 use Rattle.second_draws.proofs.drawing.draw_steps.Tie as tie
 
 abbrev Inv-loop : tie.InvT-loop
-Inv-loop seed₀ file₀ odds n s₀ seed file s = Unit
+Inv-loop seed₀ file₀ odds mild n s₀ seed file s = Unit
 
 abbrev μ-loop : tie.MeasureT-loop
-μ-loop seed₀ file₀ odds n s₀ seed file s = n - s
+μ-loop seed₀ file₀ odds mild n s₀ seed file s = n - s
 
 steps-requires : tie.Need-steps-requires Inv-loop μ-loop
 steps-requires c κs = search needs
@@ -24,6 +24,12 @@ roles-requires c κs = search needs
 
 some-of-requires : tie.Need-some-of-requires Inv-loop μ-loop
 some-of-requires c κs = search needs
+
+roles-requires-2 : tie.Need-roles-requires-2 Inv-loop μ-loop
+roles-requires-2 c κs = search needs
+
+one-if-requires : tie.Need-one-if-requires Inv-loop μ-loop
+one-if-requires c κs = search needs
 
 some-of-requires-2 : tie.Need-some-of-requires-2 Inv-loop μ-loop
 some-of-requires-2 c κs = search needs
@@ -66,6 +72,8 @@ draw-steps-spec =
     step-at-requires
     roles-requires
     some-of-requires
+    roles-requires-2
+    one-if-requires
     some-of-requires-2
     put-word-requires
     plus-requires

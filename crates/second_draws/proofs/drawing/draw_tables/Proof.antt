@@ -5,10 +5,10 @@ use Rattle.second_draws.proofs.drawing.draw_tables.Statement.{statement
 use Rattle.second_draws.proofs.drawing.draw_tables.Tie as tie
 
 abbrev Inv-loop : tie.InvT-loop
-Inv-loop seed₀ file₀ n i₀ seed file i = Unit
+Inv-loop seed₀ file₀ odds n i₀ seed file i = Unit
 
 abbrev μ-loop : tie.MeasureT-loop
-μ-loop seed₀ file₀ n i₀ seed file i = n - i
+μ-loop seed₀ file₀ odds n i₀ seed file i = n - i
 
 tables-requires : tie.Need-tables-requires Inv-loop μ-loop
 tables-requires c κs = search needs

@@ -8,7 +8,7 @@ abbrev Inv-loop : tie.InvT-loop
 Inv-loop slate₀ file node₀ slate node = Unit
 
 abbrev μ-loop : tie.MeasureT-loop
-μ-loop slate₀ file node₀ slate node = 4000 - node
+μ-loop slate₀ file node₀ slate node = 2000 - node
 
 people-requires : tie.Need-people-requires Inv-loop μ-loop
 people-requires c κs = search needs
@@ -21,6 +21,9 @@ put-counts-requires c κs = search needs
 
 list-may-requires : tie.Need-list-may-requires Inv-loop μ-loop
 list-may-requires c κs = search needs
+
+list-later-requires : tie.Need-list-later-requires Inv-loop μ-loop
+list-later-requires c κs = search needs
 
 put-nodes-requires : tie.Need-put-nodes-requires Inv-loop μ-loop
 put-nodes-requires c κs = search needs
@@ -55,6 +58,9 @@ loop-less c = search needs
 loop-again : tie.Need-loop-again Inv-loop μ-loop
 loop-again c = search needs
 
+nodes-requires-3 : tie.Need-nodes-requires-3 Inv-loop μ-loop
+nodes-requires-3 c κs = search needs
+
 returns-3 : tie.Need-returns-3 Inv-loop μ-loop
 returns-3 c = search needs
 
@@ -68,6 +74,7 @@ list-positions-spec =
     steps-requires
     put-counts-requires
     list-may-requires
+    list-later-requires
     put-nodes-requires
     add-node-requires
     loop-holds
@@ -79,4 +86,5 @@ list-positions-spec =
     add-node
     loop-less
     loop-again
+    nodes-requires-3
     returns-3)

@@ -1,0 +1,62 @@
+-- `second::passes::dynamic` is safe and ends: what is left of the loop falls.
+use borrow.Author.Needs.{needs}
+use Prim.Native.Nat.{_-_}
+use Rattle.second.proofs.passes.dynamic.Statement.{statement}
+use Rattle.second.proofs.passes.dynamic.Tie as tie
+
+abbrev Inv-loop : tie.InvT-loop
+Inv-loop slate₀ t n i₀ slate i = Unit
+
+abbrev μ-loop : tie.MeasureT-loop
+μ-loop slate₀ t n i₀ slate i = n - i
+
+nodes-requires : tie.Need-nodes-requires Inv-loop μ-loop
+nodes-requires c κs = search needs
+
+loop-holds : tie.Need-loop-holds Inv-loop μ-loop
+loop-holds c = search needs
+
+from-last-requires : tie.Need-from-last-requires Inv-loop μ-loop
+from-last-requires c κs = search needs
+
+dynamic-at-requires : tie.Need-dynamic-at-requires Inv-loop μ-loop
+dynamic-at-requires c κs = search needs
+
+add-i : tie.Need-add-i Inv-loop μ-loop
+add-i c = search needs
+
+loop-less : tie.Need-loop-less Inv-loop μ-loop
+loop-less c = search needs
+
+loop-again : tie.Need-loop-again Inv-loop μ-loop
+loop-again c = search needs
+
+cell-in-requires : tie.Need-cell-in-requires Inv-loop μ-loop
+cell-in-requires c κs = search needs
+
+returns : tie.Need-returns Inv-loop μ-loop
+returns c = search needs
+
+try-people-requires : tie.Need-try-people-requires Inv-loop μ-loop
+try-people-requires c κs = search needs
+
+returns-2 : tie.Need-returns-2 Inv-loop μ-loop
+returns-2 c = search needs
+
+pub dynamic-spec : {M : Type 1} → statement M
+dynamic-spec =
+    tie.close
+    (tie.spec
+    Inv-loop
+    μ-loop
+    nodes-requires
+    loop-holds
+    from-last-requires
+    dynamic-at-requires
+    add-i
+    loop-less
+    loop-again
+    cell-in-requires
+    returns
+    try-people-requires
+    returns-2)
