@@ -1,6 +1,8 @@
-//! The same questions in plain Rust, written from the scope and sharing nothing with the library: bitmask rows, rules indexed by the
+//! The same questions in plain Rust, written from the scope and sharing nothing with the library but the types of answers: bitmask rows, rules indexed by the
 //! step that completes them, one person after the other. What the library is compared with, in answers and in speed.
-use crate::rodcrank::{Answer, Ended, Refusal, Verdict};
+#![allow(dead_code)]
+pub mod cases;
+use rodcrank::{Answer, Move, People, Refusal, Search, Verdict};
 
 #[derive(Clone, Copy)]
 struct Rule {
@@ -37,8 +39,8 @@ impl Count {
     }
 }
 
-fn refuse<T>(number: u32, place: usize) -> Result<T, Refusal> {
-    Err(Refusal { number, place: place as u32 })
+fn refuse<T>(number: u64, place: usize) -> Result<T, Refusal> {
+    Err(Refusal { number, place: place as u64 })
 }
 
 fn word(file: &[u8], at: usize) -> usize {
@@ -238,19 +240,23 @@ impl Plain {
         Ok(None)
     }
 
-    /// 13: the position, one byte a person.
-    fn start_at(&self, position: &[u8]) -> Result<[u8; 8], Refusal> {
-        if position.len() >= self.steps {
+    /// 13: the position, in pairs of step and person. Its length, and its persons.
+    fn start_at(&self, position: &[u8]) -> Result<(usize, [u8; 8]), Refusal> {
+        let pairs = position.chunks(2);
+        if pairs.len() >= self.steps {
             return refuse(13, self.steps);
         }
         let mut who = [0; 8];
-        for (at, v) in position.iter().enumerate() {
-            who[at] = *v;
-            if u32::from(*v) >= self.people || self.allowed[at] >> v & 1 == 0 || !self.keeps(&who, at) {
+        for (at, pair) in pairs.enumerate() {
+            match *pair {
+                [step, v] if usize::from(step) == at && u32::from(v) < self.people && self.allowed[at] >> v & 1 == 1 => who[at] = v,
+                _ => return refuse(13, at),
+            }
+            if !self.keeps(&who, at) {
                 return refuse(13, at);
             }
         }
-        Ok(who)
+        Ok((position.len() / 2, who))
     }
 }
 
@@ -266,16 +272,20 @@ pub fn next_set(n: u32, t: u32, held: u32, set: u32) -> Option<u32> {
     }
 }
 
-fn end<T>(limit: u32, walk: impl FnOnce(&mut Count) -> Result<T, OverLimit>) -> Ended<T> {
+fn end<T>(limit: u32, walk: impl FnOnce(&mut Count) -> Result<T, OverLimit>) -> Search<T> {
     let mut n = Count { used: 0, limit };
     match walk(&mut n) {
-        Ok(got) => Ended::With(got, n.used),
-        Err(OverLimit) => Ended::Limit(limit),
+        Ok(got) => Search::Ended { got, trials: n.used },
+        Err(OverLimit) => Search::Limit { trials: limit },
     }
 }
 
+fn people(set: u32) -> People {
+    People { low: u64::from(set), high: 0 }
+}
+
 fn verdict(shown: Option<u32>) -> Verdict {
-    shown.map_or(Verdict::Yes, Verdict::No)
+    shown.map_or(Verdict::Yes, |set| Verdict::No { shown: people(set) })
 }
 
 fn asked(file: &[u8], t: u32) -> Result<Plain, Refusal> {
@@ -314,31 +324,31 @@ pub fn dynamic_verdict(file: &[u8], t: u32, limit: u32) -> Answer<Verdict> {
     Ok(end(limit, |n| plain.good_from(t, &mut [0; 8], 0, n).map(verdict)))
 }
 
-pub fn advice(file: &[u8], position: &[u8], t: u32, absent: u32, limit: u32) -> Answer<Option<u8>> {
+/// The position is bytes, in pairs of step and person.
+pub fn advice(file: &[u8], position: &[u8], t: u32, absent: People, limit: u32) -> Answer<Option<Move>> {
     let plain = asked(file, t)?;
-    let mut who = plain.start_at(position)?;
-    if u64::from(absent) >> plain.people != 0 || absent.count_ones() > t {
+    let (at, mut who) = plain.start_at(position)?;
+    if absent.iter().any(|v| u32::from(v) >= plain.people) || absent.len() > t {
         return refuse(14, 0);
     }
-    let at = position.len();
     Ok(end(limit, |n| {
-        let mut left = plain.allowed[at] & !absent;
+        let mut left = plain.allowed[at] & !(absent.low as u32);
         while left != 0 {
             who[at] = left.trailing_zeros() as u8;
             left &= left - 1;
             n.trial()?;
             if plain.keeps(&who, at) && plain.good_from(t, &mut who, at + 1, n)?.is_none() {
-                return Ok(Some(who[at]));
+                return Ok(Some(Move { step: at as u8, person: who[at] }));
             }
         }
         Ok(None)
     }))
 }
 
-pub fn away(file: &[u8], position: &[u8], t: u32, limit: u32) -> Answer<Option<u32>> {
+pub fn away(file: &[u8], position: &[u8], t: u32, limit: u32) -> Answer<Option<People>> {
     let plain = asked(file, t)?;
-    let mut who = plain.start_at(position)?;
-    Ok(end(limit, |n| plain.good_from(t, &mut who, position.len(), n)))
+    let (at, mut who) = plain.start_at(position)?;
+    Ok(end(limit, |n| Ok(plain.good_from(t, &mut who, at, n)?.map(people))))
 }
 
 /// The text of the program `verdicts`.
@@ -356,21 +366,21 @@ pub fn verdicts(input: &[u8]) -> Vec<u8> {
     }
     text += &format!("\nabsent {} limit {}\n", t, limit);
     text += &match plan(file, limit) {
-        Ok(Ended::With(Some(who), n)) => format!("plan yes {} trials {}\n", listed(&who), n),
-        Ok(Ended::With(None, n)) => format!("plan no trials {}\n", n),
-        Ok(Ended::Limit(n)) => format!("plan limit trials {}\n", n),
+        Ok(Search::Ended { got: Some(who), trials }) => format!("plan yes {} trials {}\n", listed(&who), trials),
+        Ok(Search::Ended { got: None, trials }) => format!("plan no trials {}\n", trials),
+        Ok(Search::Limit { trials }) => format!("plan limit trials {}\n", trials),
         Err(_) => unreachable!(),
     };
     let questions: [(&str, fn(&[u8], u32, u32) -> Answer<Verdict>); 3] =
         [("static", static_verdict), ("decremental", decremental_verdict), ("dynamic", dynamic_verdict)];
     for (name, ask) in questions {
         text += &match ask(file, t, limit) {
-            Ok(Ended::With(Verdict::Yes, n)) => format!("{} yes trials {}\n", name, n),
-            Ok(Ended::With(Verdict::No(set), n)) => {
-                let who: Vec<u8> = (0..32).filter(|v| set >> v & 1 != 0).collect();
-                format!("{} no {} trials {}\n", name, listed(&who), n)
+            Ok(Search::Ended { got: Verdict::Yes, trials }) => format!("{} yes trials {}\n", name, trials),
+            Ok(Search::Ended { got: Verdict::No { shown }, trials }) => {
+                let who: Vec<u8> = (0..32).filter(|v| shown.low >> v & 1 != 0).collect();
+                format!("{} no {} trials {}\n", name, listed(&who), trials)
             }
-            Ok(Ended::Limit(n)) => format!("{} limit trials {}\n", name, n),
+            Ok(Search::Limit { trials }) => format!("{} limit trials {}\n", name, trials),
             Err(_) => unreachable!(),
         };
     }

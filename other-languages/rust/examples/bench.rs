@@ -5,14 +5,10 @@
 //! usage: bench                 both workloads, timed
 //!        bench count W Q SIDE  one turn of one question alone, for a tool that counts instructions: workload 0 or 1, question 0 to
 //!                              5, side 0 (neither: only the files are made), 1 (library) or 2 (plain)
-#[allow(dead_code)]
-mod cases;
-#[allow(dead_code)]
+#[path = "../plain/mod.rs"]
 mod plain;
-#[allow(dead_code)]
-mod rodcrank;
-use cases::{make, Dice, Shape};
-use rodcrank::{Answer, Ended, Verdict};
+use plain::cases::{make, Dice, Shape};
+use rodcrank::{Answer, People, Search, Verdict};
 use std::time::Instant;
 
 /// Trials, and a number that any other answer would change.
@@ -20,9 +16,9 @@ type Sum = (u64, u64);
 
 fn add<T>(sum: &mut Sum, answer: &Answer<T>, told: impl Fn(&T) -> u64) {
     let (told, trials) = match answer {
-        Err(r) => (1000 + u64::from(r.number), 0),
-        Ok(Ended::Limit(n)) => (7, *n),
-        Ok(Ended::With(got, n)) => (told(got), *n),
+        Err(r) => (1000 + r.number, 0),
+        Ok(Search::Limit { trials }) => (7, *trials),
+        Ok(Search::Ended { got, trials }) => (told(got), *trials),
     };
     sum.0 += u64::from(trials);
     sum.1 = sum.1.wrapping_mul(31).wrapping_add(told).wrapping_mul(31).wrapping_add(u64::from(trials));
@@ -31,12 +27,12 @@ fn add<T>(sum: &mut Sum, answer: &Answer<T>, told: impl Fn(&T) -> u64) {
 fn of_verdict(v: &Verdict) -> u64 {
     match v {
         Verdict::Yes => 1,
-        Verdict::No(set) => 2 + u64::from(*set),
+        Verdict::No { shown } => 2 + shown.low,
     }
 }
 
-fn of_set(set: &Option<u32>) -> u64 {
-    set.map_or(1, |s| 2 + u64::from(s))
+fn of_set(set: &Option<People>) -> u64 {
+    set.map_or(1, |s| 2 + s.low)
 }
 
 const QUESTIONS: [&str; 6] = ["plan", "static", "decremental", "dynamic", "advice", "away"];
@@ -69,12 +65,13 @@ fn turn(w: &Workload, question: usize, library: bool) -> Sum {
                 add(&mut sum, &ask(file, t, limit), of_verdict);
             }
             4 => {
-                let ask = if library { rodcrank::advice } else { plain::advice };
-                add(&mut sum, &ask(file, &[], t, (1 << t) - 1, limit), |v| v.map_or(1, |v| 2 + u64::from(v)));
+                let absent = People { low: (1 << t) - 1, high: 0 };
+                let answer = if library { rodcrank::advice(file, &[], t, absent, limit) } else { plain::advice(file, &[], t, absent, limit) };
+                add(&mut sum, &answer, |m| m.map_or(1, |m| 2 + u64::from(m.person)));
             }
             _ => {
-                let ask = if library { rodcrank::away } else { plain::away };
-                add(&mut sum, &ask(file, &[], t, limit), of_set);
+                let answer = if library { rodcrank::away(file, &[], t, limit) } else { plain::away(file, &[], t, limit) };
+                add(&mut sum, &answer, of_set);
             }
         }
     }
@@ -89,11 +86,7 @@ fn workloads() -> [Workload; 2] {
     let tight = Shape { people: 32, steps: 8, roles: 16, tables: 6, rules: 32, thick: 60, held: 30, same: 0, own: 0 };
     let loose = Shape { thick: 97, held: 50, same: 1, ..tight };
     [
-        Workload {
-            name: "8 steps, 32 people, 32 rules of all forms, t = 1",
-            files: (0..24).map(|_| make(&mut dice, tight)).collect(),
-            t: 1,
-        },
+        Workload { name: "8 steps, 32 people, 32 rules of all forms, t = 1", files: (0..24).map(|_| make(&mut dice, tight)).collect(), t: 1 },
         Workload {
             name: "the same counts, thicker tables, many absence sets: t = 3",
             files: (0..24).map(|_| make(&mut dice, loose)).collect(),
@@ -144,7 +137,7 @@ fn main() {
         for _ in 0..100 {
             for file in &works[0].files {
                 let answer = if library { rodcrank::dynamic_verdict(file, 1, 0) } else { plain::dynamic_verdict(file, 1, 0) };
-                assert_eq!(answer, Ok(Ended::Limit(0)));
+                assert_eq!(answer, Ok(Search::Limit { trials: 0 }));
             }
         }
         start.elapsed().as_secs_f64() * 1e6 / (100 * works[0].files.len()) as f64
