@@ -1,7 +1,7 @@
--- Dynamic yes gives decremental yes, that gives static yes, and that a plan: for any notion of a round.
+-- Dynamic yes gives decremental yes, that gives one-shot yes, that gives static yes, and that a plan: for any notion of a round.
 use mathlib.Core.Path.{_≡_, refl}
 use Prim.Native.Nat.{ℕ, zero, suc}
-use Rattle.games.specs.Games.{Absent, Contains, Line, Planned, Static, Decremental, Dynamic}
+use Rattle.games.specs.Games.{Absent, Contains, Line, Planned, Static, Decremental, OneShot, Dynamic}
 use Rattle.games.proofs.Verdicts.{nobody, contains-empty}
 
 module _ {Pos : Type 0} (n : ℕ) (Round : ℕ → Pos → Pos → Type 0) where
@@ -17,13 +17,22 @@ module _ {Pos : Type 0} (n : ℕ) (Round : ℕ → Pos → Pos → Type 0) where
       let l = decremental→planned t k A (r .0) a (r .2) in
       (l .0, (r .0, r .1, l .1))
 
-  -- with nobody away yet, it may name any set at once
-  pub decremental→static : (t k : ℕ) (p : Pos) → Decremental n Round t k 0 p → Static n Round t k p
-  decremental→static t zero p g A a = (p, refl)
-  decremental→static t (suc k) p g A a =
-      let r = g A a (contains-empty n A) in
-      let l = decremental→planned t k A (r .0) a (r .2) in
-      (l .0, (r .0, r .1, l .1))
+  -- with nobody away yet, it may name any set at once, and nobody
+  pub decremental→oneShot : (t k : ℕ) (p : Pos) → Decremental n Round t k 0 p → OneShot n Round t k p
+  decremental→oneShot t zero p g = tt
+  decremental→oneShot t (suc k) p g =
+      let pass = g 0 (nobody n t) (λ v h e. e) in (
+        (pass .0, pass .1, decremental→oneShot t k (pass .0) (pass .2)),
+        λ A a.
+            let r = g A a (contains-empty n A) in
+            let l = decremental→planned t k A (r .0) a (r .2) in
+            (l .0, (r .0, r .1, l .1)),
+      )
+
+  -- it may strike before the first step
+  pub oneShot→static : (t k : ℕ) (p : Pos) → OneShot n Round t k p → Static n Round t k p
+  oneShot→static t zero p g A a = (p, refl)
+  oneShot→static t (suc k) p g A a = g .1 A a
 
   pub static→planned : (t k : ℕ) (p : Pos) → Static n Round t k p → Planned n Round 0 k p
   static→planned t k p g = g 0 (nobody n t)

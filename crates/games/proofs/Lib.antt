@@ -3,6 +3,7 @@ pub mod Searches
 pub mod Verdicts
 pub mod Good
 pub mod Chain
+pub mod Strikes
 pub mod Limits
 pub mod Play
 pub mod Trials

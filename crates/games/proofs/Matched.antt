@@ -1,7 +1,7 @@
 -- Where each round of one game can be matched by a round of another, every yes of the first is a yes of the second.
 use mathlib.Core.Path.{_≡_, refl}
 use Prim.Native.Nat.{ℕ, zero, suc}
-use Rattle.games.specs.Games.{Absent, Contains, Line, Planned, Static, Decremental, Dynamic}
+use Rattle.games.specs.Games.{Absent, Contains, Line, Planned, Static, Decremental, OneShot, Dynamic}
 
 -- `Like p s`: the position s stands for p
 abbrev pub Matches : {P S : Type 0} → (ℕ → P → P → Type 0) → (ℕ → S → S → Type 0) → (P → S → Type 0) → Type 0
@@ -24,6 +24,13 @@ module _ {P S : Type 0} (n : ℕ) (R : ℕ → P → P → Type 0) (Q : ℕ → 
       let r = g A a w in
       let m = match A p (r .0) s h (r .1) in
       (m .0, m .1, decremental-matched t k A (r .0) (m .0) (m .2) (r .2))
+
+  pub oneShot-matched : (t k : ℕ) (p : P) (s : S) → Like p s → OneShot n R t k p → OneShot n Q t k s
+  oneShot-matched t zero p s h g = tt
+  oneShot-matched t (suc k) p s h g =
+      let r = g .0 in
+      let m = match 0 p (r .0) s h (r .1) in
+      ((m .0, m .1, oneShot-matched t k (r .0) (m .0) (m .2) (r .2)), static-matched t (suc k) p s h (g .1))
 
   pub dynamic-matched : (t k : ℕ) (p : P) (s : S) → Like p s → Dynamic n R t k p → Dynamic n Q t k s
   dynamic-matched t zero p s h g = tt

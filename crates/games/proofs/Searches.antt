@@ -40,6 +40,15 @@ pub lacking-none : {B C : Type 0} (c : C) (o : Option B) → lacking c o ≡ non
 lacking-none c none e = absurd (Option·some-ne-none c e)
 lacking-none c (some b) e = refl
 
+-- c is not got exactly if something is, and got exactly if nothing is
+pub lacking-exactly : {B C : Type 0} (c : C) (o : Option B) → (lacking c o ≡ none) ↔ (gets o ≡ true)
+lacking-exactly c none = (λ e. absurd (Option·some-ne-none c e), λ e. absurd (true≢false (sym e)))
+lacking-exactly c (some b) = (λ e. refl, λ e. refl)
+
+pub lacked-exactly : {B C : Type 0} (c : C) (o : Option B) → (gets (lacking c o) ≡ true) ↔ (o ≡ none)
+lacked-exactly c none = (λ e. refl, λ e. refl)
+lacked-exactly c (some b) = (λ e. absurd (true≢false (sym e)), λ e. absurd (Option·some-ne-none b e))
+
 pub having-some : {B C : Type 0} (c x : C) (o : Option B) → having c o ≡ some x → (gets o ≡ true) × (c ≡ x)
 having-some c x none e = absurd (Option·none-ne-some x e)
 having-some c x (some b) e = (refl, Option·some-injective c x e)
@@ -47,6 +56,21 @@ having-some c x (some b) e = (refl, Option·some-injective c x e)
 pub having-none : {B C : Type 0} (c : C) (o : Option B) → having c o ≡ none → gets o ≡ false
 having-none c none e = refl
 having-none c (some b) e = absurd (Option·some-ne-none c e)
+
+-- ---- one thing, or else another
+
+module _ {B : Type 0} (c : ℕ) (rest : Unit {0} → Search B) where
+  -- nothing is got exactly if neither gets anything
+  pub neither : (o : Option B) → (orElse o c rest .got ≡ none) ↔ ((o ≡ none) × (rest tt .got ≡ none))
+  unfolding orElse plus
+  neither none = (λ e. (refl, e), λ e. e .1)
+  neither (some b) = (λ e. absurd (Option·some-ne-none b e), λ e. absurd (Option·some-ne-none b (e .0)))
+
+  -- what is got is the first thing, or the other where the first is nothing
+  pub either-got : (o : Option B) (b : B) → orElse o c rest .got ≡ some b → (o ≡ some b) ⊎ ((o ≡ none) × (rest tt .got ≡ some b))
+  unfolding orElse plus
+  either-got none b e = inr (refl, e)
+  either-got (some x) b e = inl e
 
 -- ---- going over a list
 

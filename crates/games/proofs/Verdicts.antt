@@ -18,7 +18,7 @@ use Rattle.games.specs.Arena.{Arena, Round}
 use Rattle.games.specs.Walks.{Walk, Search, plus, seek, ifNone, lacking, present, tries, desk, try, plan, static, decremental}
 use Rattle.games.specs.Games.{Absent, Contains, Line, Planned, Static, Decremental}
 use Rattle.games.specs.Good.{Earliest, First}
-use Rattle.games.proofs.Searches.{gets, gets-some, gets-none, gets-lacking, lacking-some, lacking-none, Found, seek-found, seek-none, found-in, split-mem, try-some, present-in, present-mem, tries-gets, round-canLeave, desk-wins}
+use Rattle.games.proofs.Searches.{gets, gets-some, gets-none, gets-lacking, lacking-some, lacking-none, lacked-exactly, Found, seek-found, seek-none, found-in, split-mem, try-some, present-in, present-mem, tries-gets, round-canLeave, desk-wins}
 
 -- ---- sets of absentees
 
@@ -202,11 +202,7 @@ module _ (G : Arena) where
 
   survives-is : (t k A : ℕ) (q : G .Pos) → (gets (survives t k A q .got) ≡ true) ↔ (decremental G t k A q .got ≡ none)
   unfolding survives ifNone
-  survives-is t k A q = go (decremental G t k A q .got)
-    where
-      go : (o : Option ℕ) → (gets (lacking (tt {0}) o) ≡ true) ↔ (o ≡ none)
-      go none = (λ e. refl, λ e. refl)
-      go (some x) = (λ e. absurd (true≢false (sym e)), λ e. absurd (Option·some-ne-none x e))
+  survives-is t k A q = lacked-exactly (tt {0}) (decremental G t k A q .got)
 
   -- the desk's turn against A
   against : (t k A : ℕ) → G .Pos → Search (Unit {0})

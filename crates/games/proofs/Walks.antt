@@ -9,7 +9,7 @@ use Rattle.sets.specs.Lists.{_∈_, upto}
 use Rattle.sets.specs.Sets.{sets}
 use Rattle.sets.proofs.Lists.{upto-in}
 use Rattle.games.specs.Arena.{Arena}
-use Rattle.games.specs.Walks.{Walk, Search, orElse, seek, try, ifNone, ifSome, mark, tally, tooFew, present, tries, desk, plan, static, decremental, dynamic, advice, away}
+use Rattle.games.specs.Walks.{Walk, Search, orElse, seek, try, ifNone, ifSome, mark, tally, tooFew, present, tries, desk, plan, static, decremental, oneShot, dynamic, advice, away}
 use Rattle.games.proofs.Searches.{present-in}
 
 -- ---- searches that agree on what they go over
@@ -80,6 +80,14 @@ module _ {Pos Move : Type 0} (n : ℕ) (moves moves′ : Pos → ℕ → List Mo
     decremental-agree t (suc k) c p i =
         seek-cong (λ A. ifNone A (desk G (λ q. ifNone tt (decremental G t k A q)) A p)) (λ A. ifNone A (desk H (λ q. ifNone tt (decremental H t k A q)) A p)) (sets n t c)
         (λ A m. ap (ifNone A) (desk-agree _ _ (λ q j. ap (ifNone tt) (decremental-agree t k A q j)) A p i))
+
+    pub oneShot-agree : (t k : ℕ) (p : Pos) → Inv p → oneShot G t k p ≡ oneShot H t k p
+    unfolding oneShot
+    oneShot-agree t zero p i = refl
+    oneShot-agree t (suc k) p i =
+        ap₂ (λ (w r : Search ℕ). orElse (w .got) (w .trials) (λ _. r))
+        (ap (ifNone 0) (desk-agree _ _ (λ q j. ap (ifNone tt) (oneShot-agree t k q j)) 0 p i))
+        (static-agree t (suc k) p i)
 
     pub dynamic-agree : (t k : ℕ) (p : Pos) → Inv p → dynamic G t k p ≡ dynamic H t k p
     unfolding dynamic

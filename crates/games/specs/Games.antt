@@ -34,6 +34,13 @@ module _ {Pos : Type 0} (n : ℕ) (Goes : ℕ → Pos → Pos → Type 0) where
   Decremental t zero c p = Unit {0}
   Decremental t (suc k) c p = (A : ℕ) → Absent n t A → Contains n A c → (q : Pos) × Goes A p q × Decremental t k A q
 
+  -- One-shot: before each step the away side passes or strikes. After a pass everybody is present, and the desk can go on so that it wins. A strike is the
+  -- only one, of at most t people, who stay away: without them the steps that are left can be done. The desk has won when no step is left.
+  abbrev pub OneShot : ℕ → ℕ → Pos → Type 0
+  OneShot t zero p = Unit {0}
+  OneShot t (suc k) p =
+      ((q : Pos) × Goes 0 p q × OneShot t k q) × ((A : ℕ) → Absent n t A → Planned A (suc k) p)
+
   -- Dynamic: before each step the away side names any set of at most t people, and earlier absentees may be back. The desk has won when no step is
   -- left.
   abbrev pub Dynamic : ℕ → ℕ → Pos → Type 0

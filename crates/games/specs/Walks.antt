@@ -115,6 +115,14 @@ module _ (G : Arena) where
   decremental t (suc k) c p =
       seek (λ A. ifNone A (desk (λ q. unbeaten (decremental t k A q)) A p)) (sets (G .people) t c)
 
+  -- One-shot: a turn of the away side that has not struck tries the pass, after which everybody is present and another such turn follows the desk's; then
+  -- the strikes. Whoever is struck stays away to the end, and the desk's turns follow each other: that is the static walk from here.
+  unfoldable pub oneShot : ℕ → ℕ → G .Pos → Search ℕ
+  oneShot t zero p = record { got = none; trials = 0 }
+  oneShot t (suc k) p =
+      let pass : Search ℕ = ifNone 0 (desk (λ q. unbeaten (oneShot t k q)) 0 p) in
+      orElse (pass .got) (pass .trials) (λ _. static t (suc k) p)
+
   -- Dynamic: everybody is present. The people who leave a good position are found, up to t + 1 of them; where they are at most t they are shown.
   unfoldable pub dynamic : ℕ → ℕ → G .Pos → Search ℕ
   dynamic t zero p = record { got = none; trials = 0 }
