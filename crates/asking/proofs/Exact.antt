@@ -103,7 +103,7 @@ absence-tells n t A = only-tells 14 _ _ ((λ e. to (sums .0 e)), λ k. sums .1 (
 -- ---- The calls
 
 module _ (c : Case) where
-  -- static, decremental and dynamic
+  -- static, decremental, one-shot and dynamic
   pub question-exactly : (t : ℕ) → Exactly (questionTable c t) (judgedQuestion c t)
   unfolding judgedQuestion
   question-exactly t =

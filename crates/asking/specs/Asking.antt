@@ -35,7 +35,7 @@ positionCheck c p = pick (ltb (length p) (steps c)) (entryCheck 13 (λ i. i) (ba
 unfoldable pub absenceCheck : ℕ → ℕ → ℕ → Check
 absenceCheck n t A = onlyCheck 14 (past width A n || ltb t (size width A))
 
--- ---- What each call is judged by: static, decremental and dynamic; away; advice. Plan takes no t: it judges the case alone.
+-- ---- What each call is judged by: static, decremental, one-shot and dynamic; away; advice. Plan takes no t: it judges the case alone.
 
 abbrev pub questionChecks : Case → ℕ → List Check
 questionChecks c t = caseChecks c ++ (numberCheck t ∷ [])

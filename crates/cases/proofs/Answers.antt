@@ -1,5 +1,5 @@
 -- The answers of a case's walks, in the scope's own words: plans are lists of persons, each allowed, every rule kept; the games are those of the
--- four questions.
+-- five questions.
 use mathlib.Core.Path.{_≡_, refl, sym, ap, ap₂, _∙_, subst, subst₂}
 use mathlib.Core.Logic.{_⊎_, inl, inr, _↔_}
 use mathlib.Core.Option.{Option, none, some, Option·none-ne-some, Option·some-ne-none}
@@ -14,19 +14,20 @@ use Rattle.sets.specs.Sets.{has}
 use Rattle.sets.proofs.Lists.{lt-or-eq}
 use Rattle.sets.proofs.Bits.{has-empty}
 use Rattle.games.specs.Arena.{Round}
-use Rattle.games.specs.Walks.{Search, Yes, No, plan, static, decremental, dynamic}
-use Rattle.games.specs.Games.{Absent, Contains, Line, Planned, Static, Decremental, Dynamic}
+use Rattle.games.specs.Walks.{Search, Yes, No, plan, static, decremental, oneShot, dynamic}
+use Rattle.games.specs.Games.{Absent, Contains, Line, Planned, Static, Decremental, OneShot, Dynamic}
 use Rattle.games.specs.Good.{Earliest, First}
-use Rattle.games.proofs.Verdicts.{contains-empty, plan-exactly, plan-first, static-exactly, static-shown, decremental-exactly, decremental-shown}
+use Rattle.games.proofs.Verdicts.{nobody, contains-empty, plan-exactly, plan-first, static-exactly, StaticShown, static-shown, decremental-exactly, decremental-shown}
 use Rattle.games.proofs.Good.{dynamic-exactly, dynamic-shown}
-use Rattle.games.proofs.Chain.{dynamic→decremental, decremental→static, static→planned}
-use Rattle.games.proofs.Matched.{Matches, decremental-matched, dynamic-matched}
+use Rattle.games.proofs.Chain.{dynamic→decremental, decremental→oneShot, oneShot→static, static→planned}
+use Rattle.games.proofs.Strikes.{PassAnswered, OneShotShown, oneShot-exactly, oneShot-shown, empty-is-pass}
+use Rattle.games.proofs.Matched.{Matches, decremental-matched, oneShot-matched, dynamic-matched}
 use Rattle.cases.specs.declared.Case.{Case}
 use Rattle.cases.specs.Case.{people, steps}
 use Rattle.cases.specs.Plans.{Valid, Plan, Without, FirstPlan}
-use Rattle.cases.specs.Questions.{HasPlan, StaticYes, Placed, DecrementalYes, DynamicYes}
-use Rattle.cases.specs.Shown.{StaticNo, Answers, DecrementalNo}
-use Rattle.cases.specs.Chain.{chain, planOf, staticOf, decrementalOf, dynamicOf}
+use Rattle.cases.specs.Questions.{HasPlan, StaticYes, Placed, DecrementalYes, OneShotYes, DynamicYes}
+use Rattle.cases.specs.Shown.{StaticNo, Answers, DecrementalNo, AnswersPass, OneShotNo}
+use Rattle.cases.specs.Chain.{chain, planOf, staticOf, decrementalOf, oneShotOf, dynamicOf}
 use Rattle.cases.proofs.Rounds.{start-valid, prefix-valid, valid-short, round-placed, placed-round, round-placed-person, placed-round-person, line-valid, valid-line, without-start, planned-plan}
 
 -- ---- the two notions of a round give the same games
@@ -47,6 +48,12 @@ module _ (c : Case) where
   decremental-same t k a p v = (
     decremental-matched (people c) (Round (chain c)) (Placed c) (Same c) (to-placed c) t k a p p (refl, v),
     decremental-matched (people c) (Placed c) (Round (chain c)) (Same c) (to-round c) t k a p p (refl, v),
+  )
+
+  pub oneShot-same : (t k : ℕ) (p : List ℕ) → Valid c p → OneShot (people c) (Round (chain c)) t k p ↔ OneShot (people c) (Placed c) t k p
+  oneShot-same t k p v = (
+    oneShot-matched (people c) (Round (chain c)) (Placed c) (Same c) (to-placed c) t k p p (refl, v),
+    oneShot-matched (people c) (Placed c) (Round (chain c)) (Same c) (to-round c) t k p p (refl, v),
   )
 
   pub dynamic-same : (t k : ℕ) (p : List ℕ) → Valid c p → Dynamic (people c) (Round (chain c)) t k p ↔ Dynamic (people c) (Placed c) t k p
@@ -195,21 +202,28 @@ module _ (c : Case) where
         λ g. e .1 (λ A a. planned-plan c A .1 (g A a)),
       )
 
-  -- a no shows the first set, in ascending number, of at most t people without whom there is no plan
-  static-shows : (t A : ℕ) → No (staticOf c t) A → StaticNo c t A
-  static-shows t A e =
-      let s = static-shown (chain c) t (steps c) [] A e in
+  -- a set shown is the first set, in ascending number, of at most t people without whom there is no plan
+  without-plan : (t A : ℕ) → StaticShown (chain c) t (steps c) [] A → StaticNo c t A
+  without-plan t A s =
       record {
         absent = s .absent;
         unplanned = λ q p w. s .unplanned (planned-plan c A .1 (q, p, w));
         first = λ B l a. planned-plan c B .0 (s .first B l a);
       }
 
+  static-shows : (t A : ℕ) → No (staticOf c t) A → StaticNo c t A
+  static-shows t A e = without-plan t A (static-shown (chain c) t (steps c) [] A e)
+
+  -- every set has a plan or some set has none; and of two first sets without one neither is lower
+  static-clash : (t A : ℕ) → StaticNo c t A → StaticYes c t → ⊥
+  static-clash t A n y = let q = y A (n .absent) in n .unplanned (q .0) (q .1) (q .2)
+
+  static-order : (t A B : ℕ) → StaticNo c t A → StaticNo c t B → A < B → ⊥
+  static-order t A B n m l = let q = m .first A l (n .absent) in n .unplanned (q .0) (q .1) (q .2)
+
   pub static-no : (t A : ℕ) → No (staticOf c t) A ↔ StaticNo c t A
   static-no t =
-      shown-exactly (staticOf c t) (StaticNo c t) (static-exact t .0) (static-shows t)
-      (λ A n y. let q = y A (n .absent) in n .unplanned (q .0) (q .1) (q .2))
-      (λ A B n m l. let q = m .first A l (n .absent) in n .unplanned (q .0) (q .1) (q .2))
+      shown-exactly (staticOf c t) (StaticNo c t) (static-exact t .0) (static-shows t) (static-clash t) (static-order t)
 
   -- ---- decremental
 
@@ -257,6 +271,84 @@ module _ (c : Case) where
               let r = g A (n .absent) (contains-empty (people c) A) in
               (r .0, r .1, subst (λ j. Decremental (people c) (Placed c) t j A (r .0)) left (r .2))
 
+  -- ---- one-shot
+
+  -- yes exactly if the desk wins
+  pub oneShot-exact : (t : ℕ) → Yes (oneShotOf c t) ↔ OneShotYes c t
+  oneShot-exact t =
+      let e = oneShot-exactly (chain c) t (steps c) [] in
+      let s = oneShot-same t (steps c) [] (start-valid c) in
+      (λ x. s .0 (e .0 x), λ g. e .1 (s .1 g))
+
+  -- that gives static yes
+  pub oneShot-static : (t : ℕ) → Yes (oneShotOf c t) → Yes (staticOf c t)
+  oneShot-static t e =
+      static-exactly (chain c) t (steps c) [] .1 (oneShot→static (people c) (Round (chain c)) t (steps c) [] (oneShot-exactly (chain c) t (steps c) [] .0 e))
+
+  -- with k steps left after the first, the arena's answer to a pass is the scope's
+  pass-same : (t k : ℕ) → steps c ≡ suc k → PassAnswered (chain c) t k [] ↔ AnswersPass c t
+  pass-same t k h =
+      let left : steps c - 1 ≡ k = omega arith in (
+        λ g.
+            let q = round-placed c 0 [] (g .0) (start-valid c) (g .1) in
+            (g .0, q, subst (λ j. OneShot (people c) (Placed c) t j (g .0)) (sym left) (oneShot-same t k (g .0) (q .valid) .0 (g .2))),
+        λ g. (g .0, placed-round c 0 [] (g .0) (g .1), oneShot-same t k (g .0) (g .1 .valid) .1 (subst (λ j. OneShot (people c) (Placed c) t j (g .0)) left (g .2))),
+      )
+
+  -- a no shows nobody for a pass that beats the desk, else the first set that beats it when struck before the first step
+  oneShot-shows : (t A : ℕ) → No (oneShotOf c t) A → OneShotNo c t A
+  oneShot-shows t A e = go (steps c) refl e
+    where
+      go : (k : ℕ) → steps c ≡ k → oneShot (chain c) t k [] .got ≡ some A → OneShotNo c t A
+      go zero h x = absurd (Option·none-ne-some A (unfold oneShot in x))
+      go (suc k) h x = at (oneShot-shown (chain c) t k [] A x)
+        where
+          at : OneShotShown (chain c) t k [] A → OneShotNo c t A
+          at (inl s) =
+              record {
+                step = omega arith;
+                absent = subst (Absent (people c) t) (sym (s .0)) (nobody (people c) t);
+                beats = inl (s .0, λ g. s .1 (pass-same t k h .1 g));
+              }
+          at (inr s) =
+              let n = without-plan t A (subst (λ j. StaticShown (chain c) t j [] A) (sym h) (s .1)) in
+              record { step = omega arith; absent = n .absent; beats = inr (pass-same t k h .0 (s .0), n) }
+
+  pub oneShot-no : (t A : ℕ) → No (oneShotOf c t) A ↔ OneShotNo c t A
+  oneShot-no t = shown-exactly (oneShotOf c t) (OneShotNo c t) (oneShot-exact t .0) (oneShot-shows t) clash (λ A B n m l. order A B (n .beats) (m .beats) l)
+    where
+      -- a yes answers the pass and every strike
+      answers : (0 < steps c) → OneShotYes c t → AnswersPass c t
+      answers z y = go (steps c) refl y
+        where
+          go : (k : ℕ) → steps c ≡ k → OneShot (people c) (Placed c) t k [] → AnswersPass c t
+          go zero h g = let n : ⊥ = omega arith in absurd n
+          go (suc k) h g =
+              let left : k ≡ steps c - 1 = omega arith in
+              let r = g .0 in
+              (r .0, r .1, subst (λ j. OneShot (people c) (Placed c) t j (r .0)) left (r .2))
+
+      clash : (A : ℕ) → OneShotNo c t A → OneShotYes c t → ⊥
+      clash A n y = at (n .beats)
+        where
+          at : ((A ≡ 0) × (AnswersPass c t → ⊥)) ⊎ (AnswersPass c t × StaticNo c t A) → ⊥
+          at (inl h) = h .1 (answers (n .step) y)
+          at (inr h) = static-clash t A (h .1) (static-exact t .0 (oneShot-static t (oneShot-exact t .1 y)))
+
+      order : (A B : ℕ) → ((A ≡ 0) × (AnswersPass c t → ⊥)) ⊎ (AnswersPass c t × StaticNo c t A) → ((B ≡ 0) × (AnswersPass c t → ⊥)) ⊎ (AnswersPass c t × StaticNo c t B)
+          → A < B → ⊥
+      order A B n (inl m) l = let e = m .0 in omega arith
+      order A B (inl n) (inr m) l = n .1 (m .0)
+      order A B (inr n) (inr m) l = static-order t A B (n .1) (m .1) l
+
+  -- where nobody is shown, it is a pass that beats the desk, never an empty strike
+  pub oneShot-empty : (t : ℕ) → OneShotNo c t 0 → AnswersPass c t → ⊥
+  oneShot-empty t n g = go (steps c) refl (oneShot-no t 0 .1 n)
+    where
+      go : (k : ℕ) → steps c ≡ k → oneShot (chain c) t k [] .got ≡ some 0 → ⊥
+      go zero h x = Option·none-ne-some {A = ℕ} 0 (unfold oneShot in x)
+      go (suc k) h x = empty-is-pass (chain c) t k [] (oneShot-shown (chain c) t k [] 0 x) (pass-same t k h .1 g)
+
   -- ---- dynamic
 
   -- yes exactly if the desk wins
@@ -266,15 +358,15 @@ module _ (c : Case) where
       let s = dynamic-same t (steps c) [] (start-valid c) in
       (λ x. s .0 (e .0 x), λ g. e .1 (s .1 g))
 
-  -- ---- dynamic yes gives decremental yes, that gives static yes, and that a plan
+  -- ---- dynamic yes gives decremental yes, that gives one-shot yes, that gives static yes, and that a plan
 
   pub dynamic-decremental : (t : ℕ) → Yes (dynamicOf c t) → Yes (decrementalOf c t)
   dynamic-decremental t e =
       decremental-exactly (chain c) t (steps c) 0 [] .1 (dynamic→decremental (people c) (Round (chain c)) t (steps c) 0 [] (dynamic-exactly (chain c) t (steps c) [] .0 e))
 
-  pub decremental-static : (t : ℕ) → Yes (decrementalOf c t) → Yes (staticOf c t)
-  decremental-static t e =
-      static-exactly (chain c) t (steps c) [] .1 (decremental→static (people c) (Round (chain c)) t (steps c) [] (decremental-exactly (chain c) t (steps c) 0 [] .0 e))
+  pub decremental-oneShot : (t : ℕ) → Yes (decrementalOf c t) → Yes (oneShotOf c t)
+  decremental-oneShot t e =
+      oneShot-exactly (chain c) t (steps c) [] .1 (decremental→oneShot (people c) (Round (chain c)) t (steps c) [] (decremental-exactly (chain c) t (steps c) 0 [] .0 e))
 
   pub static-plan : (t : ℕ) → Yes (staticOf c t) → (q : List ℕ) × (planOf c .got ≡ some q)
   static-plan t e =

@@ -21,7 +21,7 @@ use Rattle.cases.specs.declared.Case.{Case}
 use Rattle.cases.specs.Case.{mostPeople, mostSteps, mostTables, mostRules, zeroStep, zeroRule, entry, people, steps, tables, rolesHeld, rolesFor, row, rules, zeroed, SameBelow}
 use Rattle.cases.specs.Rules.{related, stepsIn, filled, kept, rulesHold}
 use Rattle.cases.specs.Plans.{may, holds}
-use Rattle.cases.specs.Chain.{offers, place, chain, personOf, planOf, staticOf, decrementalOf, dynamicOf, adviceAt, awayAt}
+use Rattle.cases.specs.Chain.{offers, place, chain, personOf, planOf, staticOf, decrementalOf, oneShotOf, dynamicOf, adviceAt, awayAt}
 use Rattle.cases.proofs.Positions.{map-cong, upto-at}
 use Rattle.cases.proofs.Rules.{needed-cong}
 use Rattle.cases.proofs.Rounds.{entry-at, entry-past}
@@ -99,6 +99,7 @@ pub record SameWalks (c d : Case) : Type 0 where
   pub plan : planOf c ≡ planOf d
   pub static : (t : ℕ) → staticOf c t ≡ staticOf d t
   pub decremental : (t : ℕ) → decrementalOf c t ≡ decrementalOf d t
+  pub oneShot : (t : ℕ) → oneShotOf c t ≡ oneShotOf d t
   pub dynamic : (t : ℕ) → dynamicOf c t ≡ dynamicOf d t
   pub advice : (t A : ℕ) (p : List ℕ) → adviceAt c t A p ≡ adviceAt d t A p
   pub away : (t : ℕ) (p : List ℕ) → awayAt c t p ≡ awayAt d t p
@@ -110,6 +111,7 @@ nothing-above-counts c d s =
       plan = λ i. walks.plan (chain-same c d s i) 0 (s .counts i .steps) [];
       static = λ t i. walks.static (chain-same c d s i) t (s .counts i .steps) [];
       decremental = λ t i. walks.decremental (chain-same c d s i) t (s .counts i .steps) 0 [];
+      oneShot = λ t i. walks.oneShot (chain-same c d s i) t (s .counts i .steps) [];
       dynamic = λ t i. walks.dynamic (chain-same c d s i) t (s .counts i .steps) [];
       advice = λ t A p i. record {
         got = personOf (walks.advice (chain-same c d s i) t (s .counts i .steps - length p) A p .got);

@@ -1,4 +1,4 @@
--- The scope's worked examples, as the rows of one table that is computed from the definitions: the twelve entries of the campfire's table, with
+-- The scope's worked examples, as the rows of one table that is computed from the definitions: the fifteen entries of the campfire's table, with
 -- shown sets and trials, and the three rule cases. Everything else that the scope works out is run and compared.
 use mathlib.Core.Path.{_≡_, refl}
 use mathlib.Core.Option.{Option, none, some}
@@ -9,13 +9,13 @@ use lib.ListN.{replicate}
 use Rattle.sets.specs.Lists.{from, upto, keep, all, any}
 use Rattle.sets.specs.Sets.{has, count, setFrom, size, members, within, meets, sets}
 use Rattle.sets.specs.Stored.{number, stored, noPeople}
-use Rattle.games.specs.Walks.{plus, orElse, seek, try, ifNone, mark, tally, tooFew, present, tries, desk, plan, static, decremental, dynamic}
+use Rattle.games.specs.Walks.{plus, orElse, seek, try, ifNone, mark, tally, tooFew, present, tries, desk, plan, static, decremental, oneShot, dynamic}
 use Rattle.games.specs.Limit.{Ended, limit, ended, Answer, cut}
 use Rattle.cases.specs.declared.Case.{Case}
 use Rattle.cases.specs.Case.{people, entry, rolesHeld, rolesFor, row, rules, zeroStep, zeroRule}
 use Rattle.cases.specs.Rules.{related, stepsIn, needed, filled, kept, rulesHold}
 use Rattle.cases.specs.Plans.{may, holds}
-use Rattle.cases.specs.Chain.{offers, place, planOf, staticOf, decrementalOf, dynamicOf}
+use Rattle.cases.specs.Chain.{offers, place, planOf, staticOf, decrementalOf, oneShotOf, dynamicOf}
 
 -- ---- The two cases
 
@@ -45,7 +45,7 @@ oneTable form =
 
 -- a question of the campfire at t, under a limit of 1000; or whether a position keeps the rule of a form
 pub data Asked : Type 0 where
-  plan? static? decremental? dynamic? : ℕ → Asked
+  plan? static? decremental? oneShot? dynamic? : ℕ → Asked
   keeps? : ℕ → List ℕ → Asked
 
 -- a plan's persons or a shown set's, and the trials; "limit" and its count
@@ -71,12 +71,13 @@ sayRule false = breaks
 pub answer : Asked → Said
 unfolding
     from upto keep all any has count setFrom size members within meets sets number
-    plus orElse seek try ifNone mark tally tooFew present tries desk plan static decremental dynamic cut
+    plus orElse seek try ifNone mark tally tooFew present tries desk plan static decremental oneShot dynamic cut
     entry rolesHeld rolesFor row rules related stepsIn needed filled kept rulesHold may holds offers place
     sayPlan sayVerdict sayRule
 answer (plan? t) = let a = cut 1000 (planOf campfire) in sayPlan (a .out) (a .count)
 answer (static? t) = let a = cut 1000 (staticOf campfire t) in sayVerdict (a .out) (a .count)
 answer (decremental? t) = let a = cut 1000 (decrementalOf campfire t) in sayVerdict (a .out) (a .count)
+answer (oneShot? t) = let a = cut 1000 (oneShotOf campfire t) in sayVerdict (a .out) (a .count)
 answer (dynamic? t) = let a = cut 1000 (dynamicOf campfire t) in sayVerdict (a .out) (a .count)
 answer (keeps? form p) = sayRule (holds (oneTable form) p)
 
@@ -92,9 +93,9 @@ q ▸ a = record { asked = q; said = a }
 
 pub entries : List Entry
 entries =
-    (plan? 0 ▸ planned (0 ∷ 1 ∷ []) 2) ∷ (static? 0 ▸ wins 2) ∷ (decremental? 0 ▸ wins 2) ∷ (dynamic? 0 ▸ wins 2)
-    ∷ (plan? 1 ▸ planned (0 ∷ 1 ∷ []) 2) ∷ (static? 1 ▸ wins 9) ∷ (decremental? 1 ▸ wins 12) ∷ (dynamic? 1 ▸ showing (0 ∷ []) 6)
-    ∷ (plan? 2 ▸ planned (0 ∷ 1 ∷ []) 2) ∷ (static? 2 ▸ showing (0 ∷ 1 ∷ []) 7) ∷ (decremental? 2 ▸ showing [] 15) ∷ (dynamic? 2 ▸ showing [] 6)
+    (plan? 0 ▸ planned (0 ∷ 1 ∷ []) 2) ∷ (static? 0 ▸ wins 2) ∷ (decremental? 0 ▸ wins 2) ∷ (oneShot? 0 ▸ wins 5) ∷ (dynamic? 0 ▸ wins 2)
+    ∷ (plan? 1 ▸ planned (0 ∷ 1 ∷ []) 2) ∷ (static? 1 ▸ wins 9) ∷ (decremental? 1 ▸ wins 12) ∷ (oneShot? 1 ▸ wins 15) ∷ (dynamic? 1 ▸ showing (0 ∷ []) 6)
+    ∷ (plan? 2 ▸ planned (0 ∷ 1 ∷ []) 2) ∷ (static? 2 ▸ showing (0 ∷ 1 ∷ []) 7) ∷ (decremental? 2 ▸ showing [] 15) ∷ (oneShot? 2 ▸ showing [] 18) ∷ (dynamic? 2 ▸ showing [] 6)
     ∷ (keeps? 3 (1 ∷ 1 ∷ 0 ∷ []) ▸ keeps)
     ∷ (keeps? 3 (1 ∷ 2 ∷ 0 ∷ []) ▸ breaks) ∷ (keeps? 2 (1 ∷ 2 ∷ 0 ∷ []) ▸ keeps)
     ∷ (keeps? 2 (0 ∷ 0 ∷ 1 ∷ []) ▸ breaks)

@@ -6,7 +6,7 @@ use Prim.Native.Nat.{ℕ, _-_}
 use lib.ListN.{length}
 use Rattle.sets.specs.Lists.{onlyIf, consIf}
 use Rattle.games.specs.Arena.{Arena}
-use Rattle.games.specs.Walks.{Search, plan, static, decremental, dynamic, advice, away}
+use Rattle.games.specs.Walks.{Search, plan, static, decremental, oneShot, dynamic, advice, away}
 use Rattle.cases.specs.declared.Case.{Case}
 use Rattle.cases.specs.Case.{people, steps}
 use Rattle.cases.specs.Plans.{may, holds}
@@ -27,7 +27,7 @@ module _ (c : Case) where
   abbrev pub chain : Arena
   chain = record { Pos = List ℕ; Move = ℕ; people = people c; moves = offers; after = place }
 
-  -- ---- The walks of the four questions
+  -- ---- The walks of the five questions
 
   abbrev pub planOf : Search (List ℕ)
   planOf = plan chain 0 (steps c) []
@@ -37,6 +37,9 @@ module _ (c : Case) where
 
   abbrev pub decrementalOf : ℕ → Search ℕ
   decrementalOf t = decremental chain t (steps c) 0 []
+
+  abbrev pub oneShotOf : ℕ → Search ℕ
+  oneShotOf t = oneShot chain t (steps c) []
 
   abbrev pub dynamicOf : ℕ → Search ℕ
   dynamicOf t = dynamic chain t (steps c) []

@@ -1,10 +1,10 @@
--- The four questions.
+-- The five questions.
 use mathlib.Core.Path.{_≡_}
 use mathlib.Core.Bool.{Bool, true, false}
 use mathlib.Core.List.{List, [], _∷_, _++_}
 use Prim.Native.Nat.{ℕ}
 use Rattle.sets.specs.Sets.{has}
-use Rattle.games.specs.Games.{Absent, Decremental, Dynamic}
+use Rattle.games.specs.Games.{Absent, Decremental, OneShot, Dynamic}
 use Rattle.cases.specs.declared.Case.{Case}
 use Rattle.cases.specs.Case.{people, steps}
 use Rattle.cases.specs.Plans.{Valid, Plan, Without}
@@ -28,6 +28,10 @@ pub record Placed (c : Case) (A : ℕ) (p q : List ℕ) : Type 0 where
 -- Decremental: does the desk complete a plan, where before each step the away side may enlarge its set, never above t people over the whole job?
 abbrev pub DecrementalYes : Case → ℕ → Type 0
 DecrementalYes c t = Decremental (people c) (Placed c) t (steps c) 0 []
+
+-- One-shot: does it, where before each step the away side passes or strikes, at most once, with at most t people who stay away?
+abbrev pub OneShotYes : Case → ℕ → Type 0
+OneShotYes c t = OneShot (people c) (Placed c) t (steps c) []
 
 -- Dynamic: does it, where before each step the away side names any set of at most t people?
 abbrev pub DynamicYes : Case → ℕ → Type 0

@@ -1,7 +1,9 @@
 -- What a no shows.
+use mathlib.Core.Path.{_≡_}
+use mathlib.Core.Logic.{_⊎_}
 use mathlib.Core.List.{List, []}
 use Prim.Native.Nat.{ℕ, _-_, _<_}
-use Rattle.games.specs.Games.{Absent, Decremental}
+use Rattle.games.specs.Games.{Absent, Decremental, OneShot}
 use Rattle.cases.specs.declared.Case.{Case}
 use Rattle.cases.specs.Case.{people, steps}
 use Rattle.cases.specs.Plans.{Plan, Without}
@@ -23,3 +25,14 @@ pub record DecrementalNo (c : Case) (t A : ℕ) : Type 0 where
   pub absent : Absent (people c) t A
   pub beats : Answers c t A → ⊥
   pub first : (B : ℕ) → B < A → Absent (people c) t B → Answers c t B
+
+-- after a pass before the first step the desk has a winning answer
+abbrev pub AnswersPass : Case → ℕ → Type 0
+AnswersPass c t = (q : List ℕ) × Placed c 0 [] q × OneShot (people c) (Placed c) t (steps c - 1) q
+
+-- One-shot: the empty set for a pass, where a pass before the first step beats the desk; else the first set, in ascending number, that beats it when
+-- struck before the first step, so that there is no plan without these people.
+pub record OneShotNo (c : Case) (t A : ℕ) : Type 0 where
+  pub step : 0 < steps c
+  pub absent : Absent (people c) t A
+  pub beats : ((A ≡ 0) × (AnswersPass c t → ⊥)) ⊎ (AnswersPass c t × StaticNo c t A)

@@ -8,12 +8,12 @@ use lib.ListN.{length}
 use Rattle.sets.specs.Lists.{onlyIf, consIf}
 use Rattle.sets.specs.Sets.{has}
 use Rattle.sets.proofs.Lists.{onlyIf-some}
-use Rattle.games.specs.Walks.{plan, static, decremental, dynamic, advice, away}
-use Rattle.games.proofs.Walks.{Agrees, plan-agree, static-agree, decremental-agree, dynamic-agree, advice-agree, away-agree}
+use Rattle.games.specs.Walks.{plan, static, decremental, oneShot, dynamic, advice, away}
+use Rattle.games.proofs.Walks.{Agrees, plan-agree, static-agree, decremental-agree, oneShot-agree, dynamic-agree, advice-agree, away-agree}
 use Rattle.cases.specs.declared.Case.{Case}
 use Rattle.cases.specs.Case.{people, steps}
 use Rattle.cases.specs.Plans.{may, holds, Valid}
-use Rattle.cases.specs.Chain.{offers, place, chain, personOf, planOf, staticOf, decrementalOf, dynamicOf, adviceAt, awayAt}
+use Rattle.cases.specs.Chain.{offers, place, chain, personOf, planOf, staticOf, decrementalOf, oneShotOf, dynamicOf, adviceAt, awayAt}
 use Rattle.cases.proofs.Rounds.{may-step, offered-in, start-valid, snoc-each}
 use Rattle.boards.specs.Board.{allowedOn, fitsOn, boardChain}
 use Rattle.laying.specs.Laid.{laidOut}
@@ -59,6 +59,9 @@ module _ (c : Case) (ready : Ready c) where
     pub decremental-from : (t k A : ℕ) → decremental (boardChain (laidOut c) (people c)) t k A p ≡ decremental (chain c) t k A p
     decremental-from t k A = sym (decremental-agree (people c) (offers c) boardMoves (place c) boardAfter (Valid c) agrees t k A p v)
 
+    pub oneShot-from : (t k : ℕ) → oneShot (boardChain (laidOut c) (people c)) t k p ≡ oneShot (chain c) t k p
+    oneShot-from t k = sym (oneShot-agree (people c) (offers c) boardMoves (place c) boardAfter (Valid c) agrees t k p v)
+
     pub dynamic-from : (t k : ℕ) → dynamic (boardChain (laidOut c) (people c)) t k p ≡ dynamic (chain c) t k p
     dynamic-from t k = sym (dynamic-agree (people c) (offers c) boardMoves (place c) boardAfter (Valid c) agrees t k p v)
 
@@ -78,7 +81,7 @@ module _ (c : Case) (ready : Ready c) where
     pub away-on-board : (t : ℕ) → away (boardChain (laidOut c) (people c)) t (steps c - length p) p ≡ awayAt c t p
     away-on-board t = away-from t (steps c - length p)
 
-  -- ---- the walks of the four questions
+  -- ---- the walks of the five questions
 
   pub plan-on-board : plan (boardChain (laidOut c) (people c)) 0 (steps c) [] ≡ planOf c
   plan-on-board = plan-from [] (start-valid c) 0 (steps c)
@@ -88,6 +91,9 @@ module _ (c : Case) (ready : Ready c) where
 
   pub decremental-on-board : (t : ℕ) → decremental (boardChain (laidOut c) (people c)) t (steps c) 0 [] ≡ decrementalOf c t
   decremental-on-board t = decremental-from [] (start-valid c) t (steps c) 0
+
+  pub oneShot-on-board : (t : ℕ) → oneShot (boardChain (laidOut c) (people c)) t (steps c) [] ≡ oneShotOf c t
+  oneShot-on-board t = oneShot-from [] (start-valid c) t (steps c)
 
   pub dynamic-on-board : (t : ℕ) → dynamic (boardChain (laidOut c) (people c)) t (steps c) [] ≡ dynamicOf c t
   dynamic-on-board t = dynamic-from [] (start-valid c) t (steps c)
