@@ -21,7 +21,7 @@ use Rattle.games.specs.Walks.{Walk, Search, plus, seek, try, lacking, having, i
 use Rattle.games.proofs.Walks.{seek-cong, tally-cong}
 use Rattle.cases.specs.Chain.{personOf}
 use Rattle.boards.specs.Board.{allowedOn, fitsOn, boardChain}
-use Rattle.walks.specs.Outcomes.{beatsOn, adviceOn}
+use Rattle.walks.specs.Outcomes.{adviceOn}
 use Rattle.walks.specs.Trying.{InLine}
 use Rattle.walks.proofs.Cuts.{plus-plus, plus-zero}
 use Rattle.walks.proofs.Scans.{Step, stop, go, Hunt, turn, judged, scan, scan-cong, Inside, Going, going-start}
@@ -191,12 +191,14 @@ module _ (b : List ℕ) (n A : ℕ) (p : List ℕ) (T F : ℕ) (line : InLine b 
   unfolding plan
   plan-line k = desk-line (plan G A k)
 
-  pub beats-line : (t k : ℕ) → beatsOn b n t k p A ≡ scan (beating A (λ u. decremental G t k A (p ++ (u ∷ [])))) F (members width T) tt
-  unfolding beatsOn ifNone
-  beats-line t k =
-      ap (λ w. record { got = lacking A (w .got); trials = w .trials }) (desk-line (λ q. unbeaten (decremental G t k A q)))
-      ∙ scan-told (first (λ u. unbeaten (decremental G t k A (p ++ (u ∷ []))))) (beating A (λ u. decremental G t k A (p ++ (u ∷ [])))) (lacking A)
-      (beating-same A (λ u. decremental G t k A (p ++ (u ∷ [])))) F (members width T) tt
+  -- a turn of the desk against the away side's next turn: A where it beats the desk
+  pub turn-line : (next : List ℕ → Search ℕ)
+      → ifNone A (desk G (λ q. unbeaten (next q)) A p) ≡ scan (beating A (λ u. next (p ++ (u ∷ [])))) F (members width T) tt
+  unfolding ifNone
+  turn-line next =
+      ap (λ w. record { got = lacking A (w .got); trials = w .trials }) (desk-line (λ q. unbeaten (next q)))
+      ∙ scan-told (first (λ u. unbeaten (next (p ++ (u ∷ []))))) (beating A (λ u. next (p ++ (u ∷ [])))) (lacking A)
+      (beating-same A (λ u. next (p ++ (u ∷ [])))) F (members width T) tt
 
   pub advice-line : (t k : ℕ) → adviceOn b n t (suc k) A p ≡ scan (naming (λ u. dynamic G t k (p ++ (u ∷ [])))) F (members width T) tt
   unfolding advice present ifSome plus

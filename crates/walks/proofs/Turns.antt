@@ -13,7 +13,7 @@ use Rattle.sets.specs.declared.Next.the-variants as next
 use Rattle.sets.specs.declared.People.{People}
 use Rattle.sets.proofs.Records.{number-none}
 use Rattle.games.specs.Arena.{Arena}
-use Rattle.games.specs.Walks.{Walk, Search, lacking, ifNone, orElse, seek, plan, static, decremental, dynamic, advice}
+use Rattle.games.specs.Walks.{Walk, Search, lacking, ifNone, orElse, seek, plan, static, decremental, oneShot, dynamic, advice}
 use Rattle.games.specs.Limit.{stopped, whole, cut}
 use Rattle.games.proofs.Limits.{cut-past}
 use Rattle.cases.specs.Case.{mostSteps}
@@ -22,12 +22,12 @@ use Rattle.cases.specs.declared.Person.{Person}
 use Rattle.cases.specs.declared.Position.{Position}
 use Rattle.cases.proofs.Positions.{persons-length, next-room}
 use Rattle.boards.specs.Board.{boardChain}
-use Rattle.walks.specs.Outcomes.{beatsOn, adviceOn}
+use Rattle.walks.specs.Outcomes.{beatsOn, passOn, adviceOn}
 use Rattle.walks.specs.Trying.{InLine}
 use Rattle.walks.proofs.Cuts.{plus-zero, finished, over, ends}
 use Rattle.walks.proofs.Scans.{Hunt, scan, Going, going-start}
 use Rattle.walks.proofs.Hunts.{first}
-use Rattle.walks.proofs.Lines.{naming, beating, showing, fit-inside, plan-line, beats-line, advice-line, dynamic-line}
+use Rattle.walks.proofs.Lines.{naming, beating, showing, fit-inside, plan-line, turn-line, advice-line, dynamic-line}
 use Rattle.walks.proofs.Sweeps.{Sweep, sweep-start}
 
 -- ---- a position with one person more, where there is room
@@ -68,6 +68,9 @@ module _ (b : List ℕ) (n : ℕ) where
   abbrev pub deskHunt : ℕ → ℕ → ℕ → List ℕ → Hunt (Option ℕ) (Option ℕ) (Unit {0})
   deskHunt t A k p = beating A (λ u. decremental (boardChain b n) t k A (p ++ (u ∷ [])))
 
+  abbrev pub passHunt : ℕ → ℕ → List ℕ → Hunt (Option ℕ) (Option ℕ) (Unit {0})
+  passHunt t k p = beating 0 (λ u. oneShot (boardChain b n) t k (p ++ (u ∷ [])))
+
 -- ---- with no step left
 
 seek-nothing : (f : ℕ → Search ℕ) (xs : List ℕ) → ((x : ℕ) → f x ≡ record { got = none; trials = 0 }) → seek f xs ≡ record { got = none; trials = 0 }
@@ -87,6 +90,10 @@ module _ (G : Arena) (k : ℕ) (p : G .Pos) (z : k ≡ 0) where
   pub decremental-full : (t c : ℕ) → decremental G t k c p ≡ record { got = none; trials = 0 }
   unfolding decremental
   decremental-full t c = ap (λ (j : ℕ). decremental G t j c p) z
+
+  pub oneShot-full : (t : ℕ) → oneShot G t k p ≡ record { got = none; trials = 0 }
+  unfolding oneShot
+  oneShot-full t = ap (λ (j : ℕ). oneShot G t j p) z
 
   -- each set finds a plan at once, in no trial
   pub static-full : (t : ℕ) → static G t k p ≡ record { got = none; trials = 0 }
@@ -128,7 +135,13 @@ line-going h b n Z limit T F p s k l = going-start h _ limit T F s (fit-inside b
 
 pub desk-going : (b : List ℕ) (n k : ℕ) (p : List ℕ) (limit T F : ℕ) → n ≤ width → (t A : ℕ) → InLine b n A p T F
     → Going (deskHunt b n t A k p) (beatsOn b n t k p A) limit T F 0 tt
-desk-going b n k p limit T F h t A l = going-start _ _ limit T F tt (fit-inside b n A p T F l h) (beats-line b n A p T F l h t k)
+unfolding beatsOn
+desk-going b n k p limit T F h t A l = going-start _ _ limit T F tt (fit-inside b n A p T F l h) (turn-line b n A p T F l h (decremental (boardChain b n) t k A))
+
+pub pass-going : (b : List ℕ) (n k : ℕ) (p : List ℕ) (limit T F : ℕ) → n ≤ width → (t : ℕ) → InLine b n 0 p T F
+    → Going (passHunt b n t k p) (passOn b n t k p) limit T F 0 tt
+unfolding passOn
+pass-going b n k p limit T F h t l = going-start _ _ limit T F tt (fit-inside b n 0 p T F l h) (turn-line b n 0 p T F l h (oneShot (boardChain b n) t k))
 
 -- a turn of the away side, and the static walk, go over sets
 pub away-going : (b : List ℕ) (n t k c limit : ℕ) (p : List ℕ) → (k ≡ 0 → ⊥) → c < 2 ^ n → size n c ≤ t
@@ -142,6 +155,16 @@ pub static-going : (b : List ℕ) (n t k limit : ℕ) (p : List ℕ) → 0 < 2 ^
     → Sweep (λ A. ifNone A (plan (boardChain b n) A k p)) (static (boardChain b n) t k p) n t 0 limit 0 0
 unfolding static
 static-going b n t k limit p l h = sweep-start _ _ n t 0 limit l h refl
+
+-- a turn of the away side that has not struck: the pass, or else the strikes
+pub oneShot-turn : (b : List ℕ) (n t k : ℕ) (p : List ℕ) → (k ≡ 0 → ⊥)
+    → orElse (passOn b n t (k - 1) p .got) (passOn b n t (k - 1) p .trials) (λ _. static (boardChain b n) t k p) ≡ oneShot (boardChain b n) t k p
+unfolding oneShot passOn
+oneShot-turn b n t k p f =
+    let e : k ≡ suc (k - 1) = omega arith in
+    let e′ : suc (k - 1) ≡ k = omega arith in
+    ap (λ (j : ℕ). orElse (passOn b n t (k - 1) p .got) (passOn b n t (k - 1) p .trials) (λ _. static (boardChain b n) t j p)) e
+    ∙ ap (λ (j : ℕ). oneShot (boardChain b n) t j p) e′
 
 -- ---- the next set, as the code answers it
 

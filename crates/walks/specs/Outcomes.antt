@@ -3,7 +3,7 @@ use mathlib.Core.Option.{Option, none, some}
 use mathlib.Core.List.{List}
 use Prim.Native.Nat.{ℕ}
 use Rattle.sets.specs.Stored.{number}
-use Rattle.games.specs.Walks.{Search, ifNone, unbeaten, desk, decremental, advice}
+use Rattle.games.specs.Walks.{Search, ifNone, unbeaten, desk, decremental, oneShot, advice}
 use Rattle.games.specs.Limit.{Answer, stopped, whole}
 use Rattle.cases.specs.Chain.{personOf}
 use Rattle.cases.specs.Positions.{persons}
@@ -58,6 +58,10 @@ module _ (b : List ℕ) (n t : ℕ) where
   -- a turn of the desk in the decremental game with A away and k steps left after it: A where it beats the desk
   unfoldable pub beatsOn : ℕ → List ℕ → ℕ → Search ℕ
   beatsOn k p A = ifNone A (desk (boardChain b n) (λ q. unbeaten (decremental (boardChain b n) t k A q)) A p)
+
+  -- a turn of the desk in the one-shot game after a pass, with k steps left after it: nobody, where the pass beats the desk
+  unfoldable pub passOn : ℕ → List ℕ → Search ℕ
+  passOn k p = ifNone 0 (desk (boardChain b n) (λ q. unbeaten (oneShot (boardChain b n) t k q)) 0 p)
 
   -- advice names a person; the move is the same person
   abbrev pub adviceOn : ℕ → ℕ → List ℕ → Search ℕ

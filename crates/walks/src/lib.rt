@@ -1,8 +1,10 @@
-// The searches: plan, static, decremental, dynamic and advice, over a board that is lent down every call. Each stops at its limit, and each is
+// The searches: plan, static, decremental, one-shot, dynamic and advice, over a board that is lent down every call. Each stops at its limit, and each is
 // proved equal to the walk of `games` on the board's arena, trial for trial. They know no case, no file and no refusal.
 //
 // A position's people are lined up once: those who cost a trial, and among them those with whom every rule holds. Each turn of a loop then goes
 // straight to the next person worth a try, and counts those passed over, each a trial, without looking at them.
+mod strikes;
+
 use boards::allowed;
 use boards::fits;
 use cases::Person;
@@ -10,6 +12,7 @@ use cases::Position;
 use sets::Lowest;
 use sets::Next;
 use sets::People;
+pub use strikes::one_shot_walk;
 ghost use mathlib.Core.Path.{_≡_};
 ghost use mathlib.Core.Bool.{Bool};
 ghost use Prim.Native.Nat.{ℕ, _+_, _-_, _^_, _≤_, _<_};
