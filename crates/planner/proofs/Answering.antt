@@ -7,7 +7,7 @@ use Prim.Native.Nat.{ℕ, _+_, _-_, _≤_, _<_}
 use native.Mathlib.Omega.{arith}
 use lib.ListN.{length}
 use Rattle.sets.specs.Lists.{_∈_}
-use Rattle.games.specs.Walks.{Search, plan, static, decremental, dynamic, away}
+use Rattle.games.specs.Walks.{Search, plan, static, decremental, oneShot, dynamic, away}
 use Rattle.games.specs.Limit.{Answer, cut}
 use Rattle.cases.specs.declared.Case.{Case}
 use Rattle.cases.specs.declared.Position.{Position}
@@ -17,7 +17,7 @@ use Rattle.cases.specs.Positions.{persons, startPosition}
 use Rattle.cases.proofs.Positions.{persons-start, persons-length}
 use Rattle.boards.specs.Board.{boardChain}
 use Rattle.laying.specs.Laid.{laidOut}
-use Rattle.laying.proofs.OnBoard.{plan-on-board, static-on-board, decremental-on-board, dynamic-on-board, advice-on-board, away-on-board}
+use Rattle.laying.proofs.OnBoard.{plan-on-board, static-on-board, decremental-on-board, oneShot-on-board, dynamic-on-board, advice-on-board, away-on-board}
 use Rattle.refusals.specs.declared.Refusal.{Refusal}
 use Rattle.refusals.specs.declared.Judged.{Judged}
 use Rattle.refusals.specs.declared.Judged.the-variants.{Good, Refused}
@@ -32,7 +32,7 @@ use Rattle.asking.proofs.Accepted.{GoodPosition, position-accepted}
 use Rattle.asking.proofs.Calls.{question-order, away-order, advice-order, question-good}
 use Rattle.asking.proofs.Laid.{good-ready, position-laid}
 use Rattle.planner.specs.declared.Question.{Question}
-use Rattle.planner.specs.declared.Question.the-variants.{Static, Decremental, Dynamic}
+use Rattle.planner.specs.declared.Question.the-variants.{Static, Decremental, OneShot, Dynamic}
 use Rattle.planner.specs.declared.PlanSays.the-variants as plan-says
 use Rattle.planner.specs.declared.PlanAnswer.{PlanAnswer}
 use Rattle.planner.specs.declared.VerdictAnswer.{VerdictAnswer}
@@ -89,6 +89,7 @@ question-answered q c t l x e k = k ∙ ap (λ j. verdictGiven j (cut l (walkOf 
 on-board : (q : Question) (c : Case) (t : ℕ) → judgedCase c ≡ Good → walkOn q (laidOut c) (people c) t (steps c) ≡ walkOf q c t
 on-board Static c t e = static-on-board c (good-ready c e) t
 on-board Decremental c t e = decremental-on-board c (good-ready c e) t
+on-board OneShot c t e = oneShot-on-board c (good-ready c e) t
 on-board Dynamic c t e = dynamic-on-board c (good-ready c e) t
 
 pub question-walked : (q : Question) (c : Case) (t l : ℕ) (b : List ℕ) (n k : ℕ) (x : Answer (Option ℕ)) → judgedCase c ≡ Good → b ≡ laidOut c → n ≡ people c → k ≡ steps c

@@ -4,11 +4,11 @@ use Prim.Native.Nat.{ℕ}
 use Rattle.games.specs.Walks.{Search}
 use Rattle.games.specs.Limit.{cut}
 use Rattle.cases.specs.declared.Case.{Case}
-use Rattle.cases.specs.Chain.{planOf, staticOf, decrementalOf, dynamicOf, adviceAt, awayAt}
+use Rattle.cases.specs.Chain.{planOf, staticOf, decrementalOf, oneShotOf, dynamicOf, adviceAt, awayAt}
 use Rattle.refusals.specs.CaseChecks.{judgedCase}
 use Rattle.asking.specs.Asking.{judgedQuestion, judgedAdvice, judgedAway}
 use Rattle.planner.specs.declared.Question.{Question}
-use Rattle.planner.specs.declared.Question.the-variants.{Static, Decremental, Dynamic}
+use Rattle.planner.specs.declared.Question.the-variants.{Static, Decremental, OneShot, Dynamic}
 use Rattle.planner.specs.declared.PlanAnswer.{PlanAnswer}
 use Rattle.planner.specs.declared.VerdictAnswer.{VerdictAnswer}
 use Rattle.planner.specs.declared.AdviceAnswer.{AdviceAnswer}
@@ -23,6 +23,7 @@ planCall c l = planGiven (judgedCase c) (cut l (planOf c))
 abbrev pub walkOf : Question → Case → ℕ → Search ℕ
 walkOf Static c t = staticOf c t
 walkOf Decremental c t = decrementalOf c t
+walkOf OneShot c t = oneShotOf c t
 walkOf Dynamic c t = dynamicOf c t
 
 -- A question: judged by 4, 7 to 11 and 12, then walked.
@@ -34,6 +35,9 @@ staticCall c t l = questionCall Static c t l
 
 abbrev pub decrementalCall : Case → ℕ → ℕ → VerdictAnswer
 decrementalCall c t l = questionCall Decremental c t l
+
+abbrev pub oneShotCall : Case → ℕ → ℕ → VerdictAnswer
+oneShotCall c t l = questionCall OneShot c t l
 
 abbrev pub dynamicCall : Case → ℕ → ℕ → VerdictAnswer
 dynamicCall c t l = questionCall Dynamic c t l

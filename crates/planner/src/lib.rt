@@ -21,6 +21,7 @@ use walks::Verdict;
 use walks::advice_walk;
 use walks::away_turn;
 use walks::dynamic_walk;
+use walks::one_shot_walk;
 use walks::plan_walk;
 use walks::static_walk;
 ghost use mathlib.Core.Path.{_≡_};
@@ -30,7 +31,7 @@ ghost use Rattle.games.specs.Limit.{cut};
 ghost use Rattle.cases.specs.Chain.{planOf};
 ghost use Rattle.refusals.specs.CaseChecks.{judgedCase};
 ghost use Rattle.asking.specs.Asking.{judgedQuestion};
-ghost use Rattle.planner.specs.Calls.{planCall, walkOf, questionCall, staticCall, decrementalCall, dynamicCall, adviceCall, awayCall};
+ghost use Rattle.planner.specs.Calls.{planCall, walkOf, questionCall, staticCall, decrementalCall, oneShotCall, dynamicCall, adviceCall, awayCall};
 ghost use Rattle.planner.specs.OnBoard.{walkOn};
 ghost use Rattle.walks.specs.Outcomes.{planOutcome, verdictOutcome, advisedOutcome};
 ghost use Rattle.cases.specs.Positions.{persons};
@@ -78,6 +79,7 @@ pub enum AwayAnswer {
 pub enum Question {
     Static,
     Decremental,
+    OneShot,
     Dynamic,
 }
 
@@ -104,6 +106,14 @@ pub fn decremental_verdict(case: Case, t: u32, limit: u32) -> VerdictAnswer
     ensures { λ r. ⌜ r ≡ decrementalCall case t limit ⌝ }
 {
     ask(Question::Decremental, case, t, limit)
+}
+
+// Does the desk win where before one of the steps, or never, at most t people go at once and stay away? A no shows the first-round strike, nobody for a
+// pass. Refused by 4, 7 to 11 and 12.
+pub fn one_shot_verdict(case: Case, t: u32, limit: u32) -> VerdictAnswer
+    ensures { λ r. ⌜ r ≡ oneShotCall case t limit ⌝ }
+{
+    ask(Question::OneShot, case, t, limit)
 }
 
 // Does the desk win where before each step any set of at most t people is away? A no shows the good people at the start, at most t of them. Refused
@@ -192,6 +202,7 @@ fn walk(
     match question {
         Question::Static => static_walk(board, people, t, start, steps, limit),
         Question::Decremental => away_turn(board, people, t, People::none(), start, steps, limit),
+        Question::OneShot => one_shot_walk(board, people, t, start, steps, limit),
         Question::Dynamic => dynamic_walk(board, people, t, start, steps, limit),
     }
 }

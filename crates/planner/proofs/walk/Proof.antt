@@ -16,6 +16,7 @@ use Rattle.sets.proofs.People.none.Reads as none-reads
 use Rattle.walks.proofs.away_turn.Reads as away-turn-reads
 use Rattle.walks.proofs.dynamic_walk.Reads as dynamic-walk-reads
 use Rattle.walks.proofs.static_walk.Reads as static-walk-reads
+use Rattle.walks.proofs.one_shot_walk.Reads as one-shot-walk-reads
 
 start-requires : tie.Need-start-requires
 start-requires c κs = search needs
@@ -38,6 +39,12 @@ away-turn-requires c κs = (omega (arith, start-empty (c .before .before .before
 enum-told-3 : tie.Need-enum-told-3
 enum-told-3 c = search needs
 
+one-shot-walk-requires : tie.Need-one-shot-walk-requires
+one-shot-walk-requires c κs = (omega (arith, start-empty (c .before .before .start .ensures), c .before .before .before .pre .0), c .before .before .before .pre .1)
+
+enum-told-4 : tie.Need-enum-told-4
+enum-told-4 c = search needs
+
 dynamic-walk-requires : tie.Need-dynamic-walk-requires
 dynamic-walk-requires c κs = (omega (arith, start-empty (c .before .before .start .ensures), c .before .before .before .pre .0), c .before .before .before .pre .1)
 
@@ -48,7 +55,10 @@ returns-2 : tie.Need-returns-2
 returns-2 c = rw (at-start (c .before .before .before .before .start .ensures), nobody-shown (c .before .none .ensures)) at (c .away-turn .ensures) ∙ ap (λ q. cut (c .before .before .before .before .before .args .limit) (walkOn q (c .before .before .before .before .before .args .board .now) (c .before .before .before .before .before .args .people) (c .before .before .before .before .before .args .t) (c .before .before .before .before .before .args .steps))) (sym (c .before .before .enum-told2 .given .1))
 
 returns-3 : tie.Need-returns-3
-returns-3 c = rw (at-start (c .before .before .before .start .ensures)) at (c .dynamic-walk .ensures) ∙ ap (λ q. cut (c .before .before .before .before .args .limit) (walkOn q (c .before .before .before .before .args .board .now) (c .before .before .before .before .args .people) (c .before .before .before .before .args .t) (c .before .before .before .before .args .steps))) (sym (c .before .enum-told3 .given .1))
+returns-3 c = rw (at-start (c .before .before .before .start .ensures)) at (c .one-shot-walk .ensures) ∙ ap (λ q. cut (c .before .before .before .before .args .limit) (walkOn q (c .before .before .before .before .args .board .now) (c .before .before .before .before .args .people) (c .before .before .before .before .args .t) (c .before .before .before .before .args .steps))) (sym (c .before .enum-told3 .given .1))
+
+returns-4 : tie.Need-returns-4
+returns-4 c = rw (at-start (c .before .before .before .start .ensures)) at (c .dynamic-walk .ensures) ∙ ap (λ q. cut (c .before .before .before .before .args .limit) (walkOn q (c .before .before .before .before .args .board .now) (c .before .before .before .before .args .people) (c .before .before .before .before .args .t) (c .before .before .before .before .args .steps))) (sym (c .before .enum-told4 .given .1))
 
 pub walk-spec : {M : Type 1} → statement M
 walk-spec =
@@ -61,7 +71,10 @@ walk-spec =
     none-requires
     away-turn-requires
     enum-told-3
+    one-shot-walk-requires
+    enum-told-4
     dynamic-walk-requires
     returns
     returns-2
-    returns-3)
+    returns-3
+    returns-4)
