@@ -22,7 +22,7 @@ use Rattle.planner.specs.declared.Question.{Question}
 use Rattle.planner.specs.Answers.{planAnswer, verdictAnswer}
 use Rattle.planner.specs.Calls.{planCall, questionCall, walkOf}
 use Rattle.planner.proofs.Answering.{plan-answered, question-answered}
-use Rattle.telling.specs.Telling.{refusedLine, textOf, told, sixLines, judgedInput, absentIn, limitIn, fileIn}
+use Rattle.telling.specs.Telling.{refusedLine, textOf, told, answerLines, judgedInput, absentIn, limitIn, fileIn}
 
 both-good : (j k : Judged) → orElse j k ≡ Good → (j ≡ Good) × (k ≡ Good)
 both-good Good k e = (refl, e)
@@ -31,7 +31,7 @@ both-good (Refused r) k e = absurd (good-refused e refl)
 -- The text of a refused input is the one line of its refusal.
 pub refused-text : (input : List ℕ) (r : Refusal) → judgedInput input ≡ Refused r → textOf input ≡ refusedLine r
 unfolding textOf
-refused-text input r e = ap (λ (j : Judged). told j (sixLines (readOf (fileIn input) .held) (absentIn input) (limitIn input))) e
+refused-text input r e = ap (λ (j : Judged). told j (answerLines (readOf (fileIn input) .held) (absentIn input) (limitIn input))) e
 
 module _ (input : List ℕ) (good : judgedInput input ≡ Good) where
   -- the case that is asked about
@@ -51,12 +51,12 @@ module _ (input : List ℕ) (good : judgedInput input ≡ Good) where
       question-order asked (absentIn input)
       ∙ ap₂ orElse case-good (both-good (judgedFile (fileIn input)) (judgedBy (numberCheck (absentIn input) ∷ [])) good .1)
 
-  -- The text of a good input is the six lines for the case that its file holds.
-  pub good-text : textOf input ≡ sixLines asked (absentIn input) (limitIn input)
+  -- The text of a good input is the lines for the case that its file holds.
+  pub good-text : textOf input ≡ answerLines asked (absentIn input) (limitIn input)
   unfolding textOf readOf
   good-text =
-      ap (λ (j : Judged). told j (sixLines (readOf (fileIn input) .held) (absentIn input) (limitIn input))) good
-      ∙ ap (λ (j : Judged). sixLines (ifGood j asked emptyCase) (absentIn input) (limitIn input)) file-good
+      ap (λ (j : Judged). told j (answerLines (readOf (fileIn input) .held) (absentIn input) (limitIn input))) good
+      ∙ ap (λ (j : Judged). answerLines (ifGood j asked emptyCase) (absentIn input) (limitIn input)) file-good
 
   -- Its plan line shows what the walk comes to under the limit.
   pub good-plan : planCall asked (limitIn input) ≡ planAnswer (cut (limitIn input) (planOf asked))

@@ -33,7 +33,7 @@ use Rattle.words.specs.Word.{AllBytes}
 use Rattle.asking.specs.Asking.{mostAbsent}
 use Rattle.asking.proofs.Calls.{question-good}
 use Rattle.planner.specs.declared.Question.{Question}
-use Rattle.planner.specs.declared.Question.the-variants.{Static, Decremental, Dynamic}
+use Rattle.planner.specs.declared.Question.the-variants.{Static, Decremental, OneShot, Dynamic}
 use Rattle.planner.specs.declared.PlanSays.the-variants as plan
 use Rattle.planner.specs.declared.PlanAnswer.{PlanAnswer}
 use Rattle.planner.specs.declared.VerdictAnswer.{VerdictAnswer}
@@ -43,7 +43,7 @@ use Rattle.planner.specs.Calls.{questionCall, planCall, walkOf}
 use Rattle.planner.proofs.Sayings.{persons-position}
 use Rattle.telling.specs.Lines.{bytes, digit, digits, decimal, spaced, line}
 use Rattle.telling.specs.Telling.{listed, trials, caseLine, askedLine, planLine, verdictLine, refusedLine}
-use Rattle.telling.specs.Telling.{linesOf, sixLines, textOf, judgedInput, absentIn, limitIn}
+use Rattle.telling.specs.Telling.{linesOf, answerLines, textOf, judgedInput, absentIn, limitIn}
 use Rattle.telling.specs.Held.{room}
 use Rattle.telling.proofs.Lists.{numbers, spaced-append}
 use Rattle.telling.proofs.Answered.{refused-text, asked, case-good, question-is-good, good-text, good-plan, good-verdict}
@@ -229,7 +229,7 @@ module _ (input : List ℕ) (good : judgedInput input ≡ Good) (small : limitIn
   verdict-fits q name = rw (good-verdict input good q) (verdict-line-fits name (limitIn input) (walkOf q (asked input good) (absentIn input)) small)
 
   good-fits : length (textOf input) ≤ room
-  unfolding sixLines
+  unfolding answerLines
   good-fits =
       rw (good-text input good)
       (simp length-append
@@ -240,6 +240,7 @@ module _ (input : List ℕ) (good : judgedInput input ≡ Good) (small : limitIn
         plan-fits,
         verdict-fits Static (bytes "static"),
         verdict-fits Decremental (bytes "decremental"),
+        verdict-fits OneShot (bytes "one-shot"),
         verdict-fits Dynamic (bytes "dynamic"),
       )))
 
@@ -264,7 +265,7 @@ longestNo = verdict.No (stored 4294967295) 4294967295
 pub room-reached :
     length (linesOf
     (record { people = mostPeople; steps = mostSteps; roles = mostRoles; tables = mostTables; rules = mostRules })
-    mostAbsent 4294967295 longestPlan longestNo longestNo longestNo)
+    mostAbsent 4294967295 longestPlan longestNo longestNo longestNo longestNo)
     ≡ room
 unfolding caseLine askedLine planLine verdictLine line spaced digits persons positionOf members has keep from upto number
 room-reached = refl

@@ -28,7 +28,7 @@ use Rattle.asking.specs.Asking.{numberCheck}
 use Rattle.files.specs.declared.FileRead.{FileRead}
 use Rattle.files.specs.Checks.{misplaced, headChecks, fileChecks, judgedFile}
 use Rattle.files.specs.Reading.{ifGood, readOf}
-use Rattle.telling.specs.Telling.{refusedLine, sixLines, told, textOf, judgedInput, absentIn, limitIn, fileIn}
+use Rattle.telling.specs.Telling.{refusedLine, answerLines, told, textOf, judgedInput, absentIn, limitIn, fileIn}
 
 -- 2 to 5
 abbrev headerChecks : List ℕ → List Check
@@ -160,7 +160,7 @@ read-first input h =
 
 -- the text, by what is read of the input
 abbrev textFrom : FileRead → ℕ → ℕ → List ℕ
-textFrom file t l = told (orElse (file .judged) (judgedBy (numberCheck t ∷ []))) (sixLines (file .held) t l)
+textFrom file t l = told (orElse (file .judged) (judgedBy (numberCheck t ∷ []))) (answerLines (file .held) t l)
 
 -- Of a longer input, the first 1,023 bytes decide.
 pub more-is-the-same : (input : List ℕ) → textOf (take 1023 input) ≡ textOf input
@@ -191,4 +191,4 @@ short-input input h =
         ++ (onlyCheck 6 (not (eqb (length (fileIn input)) (word (fileIn input) 20))) ∷ entryChecks (caseOf (fileIn input)))
 
     lines : List ℕ
-    lines = sixLines (readOf (fileIn input) .held) (absentIn input) (limitIn input)
+    lines = answerLines (readOf (fileIn input) .held) (absentIn input) (limitIn input)

@@ -17,11 +17,11 @@ use Rattle.files.specs.declared.FileRead.{FileRead}
 use Rattle.files.specs.Reading.{readOf}
 use Rattle.planner.specs.declared.PlanAnswer.{PlanAnswer}
 use Rattle.planner.specs.declared.VerdictAnswer.{VerdictAnswer}
-use Rattle.planner.specs.Calls.{planCall, staticCall, decrementalCall, dynamicCall}
+use Rattle.planner.specs.Calls.{planCall, staticCall, decrementalCall, oneShotCall, dynamicCall}
 use Rattle.telling.specs.declared.text.Text.{Text}
 use Rattle.telling.specs.Lines.{bytes}
 use Rattle.telling.specs.Telling.{caseLine, askedLine, planLine, verdictLine, refusedLine}
-use Rattle.telling.specs.Telling.{sixLines, told, textOf, judgedInput, absentIn, limitIn, fileIn}
+use Rattle.telling.specs.Telling.{answerLines, told, textOf, judgedInput, absentIn, limitIn, fileIn}
 use Rattle.telling.specs.Held.{room, held, putByte, put}
 use Rattle.telling.proofs.Growing.{then-put, put-same}
 use Rattle.telling.proofs.Lists.{append-nil}
@@ -50,21 +50,26 @@ held-put a (b ∷ w) h =
     ∙ held-put (a ++ (b ∷ [])) w (omega (arith, length-append a (b ∷ [])))
     ∙ ap held (append-assoc a (b ∷ []) w)
 
--- the six lines, one put after the other
-pub six-put : (c : Case) (t l : ℕ) (x₀ x₁ x₂ x₃ x₄ x₅ x₆ : Text) (p : PlanAnswer) (s e d : VerdictAnswer) → x₀ ≡ held []
+-- the lines, one put after the other
+pub lines-put : (c : Case) (t l : ℕ) (x₀ x₁ x₂ x₃ x₄ x₅ x₆ x₇ : Text) (p : PlanAnswer) (s e o d : VerdictAnswer) → x₀ ≡ held []
     → x₁ ≡ put x₀ (caseLine (c .counts)) → x₂ ≡ put x₁ (askedLine t l) → p ≡ planCall c l → x₃ ≡ put x₂ (planLine p)
     → s ≡ staticCall c t l → x₄ ≡ put x₃ (verdictLine (bytes "static") s)
     → e ≡ decrementalCall c t l → x₅ ≡ put x₄ (verdictLine (bytes "decremental") e)
-    → d ≡ dynamicCall c t l → x₆ ≡ put x₅ (verdictLine (bytes "dynamic") d) → x₆ ≡ put (held []) (sixLines c t l)
-unfolding sixLines
-six-put c t l x₀ x₁ x₂ x₃ x₄ x₅ x₆ p s e d h₀ h₁ h₂ hp h₃ hs h₄ he h₅ hd h₆ =
+    → o ≡ oneShotCall c t l → x₆ ≡ put x₅ (verdictLine (bytes "one-shot") o)
+    → d ≡ dynamicCall c t l → x₇ ≡ put x₆ (verdictLine (bytes "dynamic") d) → x₇ ≡ put (held []) (answerLines c t l)
+unfolding answerLines
+lines-put c t l x₀ x₁ x₂ x₃ x₄ x₅ x₆ x₇ p s e o d h₀ h₁ h₂ hp h₃ hs h₄ he h₅ ho h₆ hd h₇ =
     let one = h₁ ∙ ap (λ (x : Text). put x (caseLine (c .counts))) h₀ in
     let two = then-put _ _ _ _ one _ h₂ in
     let three = then-put _ _ _ _ two _ (h₃ ∙ ap (λ (a : PlanAnswer). put x₂ (planLine a)) hp) in
-    let four = then-put _ _ _ _ three _ (h₄ ∙ ap (λ (a : VerdictAnswer). put x₃ (verdictLine (bytes "static") a)) hs) in
-    let five = then-put _ _ _ _ four _ (h₅ ∙ ap (λ (a : VerdictAnswer). put x₄ (verdictLine (bytes "decremental") a)) he) in
-    let six = then-put _ _ _ _ five _ (h₆ ∙ ap (λ (a : VerdictAnswer). put x₅ (verdictLine (bytes "dynamic") a)) hd) in
-    put-same _ _ _ _ six (simp append-assoc)
+    let four = then-put _ _ _ _ three _ (verdict-put x₃ x₄ (bytes "static") hs h₄) in
+    let five = then-put _ _ _ _ four _ (verdict-put x₄ x₅ (bytes "decremental") he h₅) in
+    let six = then-put _ _ _ _ five _ (verdict-put x₅ x₆ (bytes "one-shot") ho h₆) in
+    let seven = then-put _ _ _ _ six _ (verdict-put x₆ x₇ (bytes "dynamic") hd h₇) in
+    put-same _ _ _ _ seven (simp append-assoc)
+  where
+    verdict-put : (x y : Text) (name : List ℕ) {a b : VerdictAnswer} → a ≡ b → y ≡ put x (verdictLine name a) → y ≡ put x (verdictLine name b)
+    verdict-put x y name h k = k ∙ ap (λ (a : VerdictAnswer). put x (verdictLine name a)) h
 
 -- ---- an input is judged and told
 
@@ -86,17 +91,17 @@ told-refused input r x₀ x b e h f =
     text-held input x b
     (f
     ∙ ap (λ (y : Text). put y (refusedLine r)) h
-    ∙ ap (λ (j : Judged). put (held []) (told j (sixLines (readOf (fileIn input) .held) (absentIn input) (limitIn input)))) (sym e))
+    ∙ ap (λ (j : Judged). put (held []) (told j (answerLines (readOf (fileIn input) .held) (absentIn input) (limitIn input)))) (sym e))
 
 pub told-good : (input : List ℕ) (f : FileRead) (t l : ℕ) (x : Text) → AllBytes input → judgedInput input ≡ Good → f ≡ readOf (fileIn input)
-    → t ≡ absentIn input → l ≡ limitIn input → x ≡ put (held []) (sixLines (f .held) t l) → x ≡ held (textOf input)
+    → t ≡ absentIn input → l ≡ limitIn input → x ≡ put (held []) (answerLines (f .held) t l) → x ≡ held (textOf input)
 unfolding textOf
 told-good input f t l x b e ef et el h =
-    let lines : sixLines (f .held) t l ≡ sixLines (readOf (fileIn input) .held) (absentIn input) (limitIn input) = cc in
+    let lines : answerLines (f .held) t l ≡ answerLines (readOf (fileIn input) .held) (absentIn input) (limitIn input) = cc in
     text-held input x b
     (h
     ∙ ap (put (held [])) lines
-    ∙ ap (λ (j : Judged). put (held []) (told j (sixLines (readOf (fileIn input) .held) (absentIn input) (limitIn input)))) (sym e))
+    ∙ ap (λ (j : Judged). put (held []) (told j (answerLines (readOf (fileIn input) .held) (absentIn input) (limitIn input)))) (sym e))
 
 -- ---- what a caller does with a text that is held
 

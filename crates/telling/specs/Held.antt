@@ -10,7 +10,7 @@ use Rattle.telling.specs.declared.text.Text.{Text}
 -- limit 4294967295 (27), a plan of eight persons with two digits each (51), and three verdicts that each show all 32 people (114, 119, 115), all
 -- of them after 4294967295 trials.
 abbrev pub room : ℕ
-room = 444
+room = 560
 
 -- the record of a text
 unfoldable pub held : List ℕ → Text

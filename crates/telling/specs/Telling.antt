@@ -20,7 +20,7 @@ use Rattle.planner.specs.declared.PlanSays.the-variants as plan
 use Rattle.planner.specs.declared.PlanAnswer.{PlanAnswer}
 use Rattle.planner.specs.declared.VerdictAnswer.{VerdictAnswer}
 use Rattle.planner.specs.declared.VerdictAnswer.the-variants as verdict
-use Rattle.planner.specs.Calls.{planCall, staticCall, decrementalCall, dynamicCall}
+use Rattle.planner.specs.Calls.{planCall, staticCall, decrementalCall, oneShotCall, dynamicCall}
 use Rattle.telling.specs.Lines.{bytes, decimal, line}
 
 -- ---- The words of a line
@@ -73,15 +73,17 @@ unfoldable pub refusedLine : Refusal → List ℕ
 refusedLine r = line (bytes "refused") (refused r)
 
 -- the counts, what is asked, and what each call says
-abbrev pub linesOf : Counts → ℕ → ℕ → PlanAnswer → VerdictAnswer → VerdictAnswer → VerdictAnswer → List ℕ
-linesOf n t l p s e d =
+abbrev pub linesOf : Counts → ℕ → ℕ → PlanAnswer → VerdictAnswer → VerdictAnswer → VerdictAnswer → VerdictAnswer → List ℕ
+linesOf n t l p s e o d =
     caseLine n
     ++ (askedLine t l
-    ++ (planLine p ++ (verdictLine (bytes "static") s ++ (verdictLine (bytes "decremental") e ++ verdictLine (bytes "dynamic") d))))
+    ++ (planLine p
+    ++ (verdictLine (bytes "static") s
+    ++ (verdictLine (bytes "decremental") e ++ (verdictLine (bytes "one-shot") o ++ verdictLine (bytes "dynamic") d)))))
 
--- the six lines for a case
-unfoldable pub sixLines : Case → ℕ → ℕ → List ℕ
-sixLines c t l = linesOf (c .counts) t l (planCall c l) (staticCall c t l) (decrementalCall c t l) (dynamicCall c t l)
+-- the lines for a case
+unfoldable pub answerLines : Case → ℕ → ℕ → List ℕ
+answerLines c t l = linesOf (c .counts) t l (planCall c l) (staticCall c t l) (decrementalCall c t l) (oneShotCall c t l) (dynamicCall c t l)
 
 -- a refusal is the only line
 abbrev pub told : Judged → List ℕ → List ℕ
@@ -106,4 +108,4 @@ judgedInput input = orElse (readOf (fileIn input) .judged) (judgedBy (numberChec
 
 -- the whole text
 unfoldable pub textOf : List ℕ → List ℕ
-textOf input = told (judgedInput input) (sixLines (readOf (fileIn input) .held) (absentIn input) (limitIn input))
+textOf input = told (judgedInput input) (answerLines (readOf (fileIn input) .held) (absentIn input) (limitIn input))

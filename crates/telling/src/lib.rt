@@ -8,6 +8,7 @@ use files::FileRead;
 use files::read;
 use planner::decremental_verdict;
 use planner::dynamic_verdict;
+use planner::one_shot_verdict;
 use planner::plan;
 use planner::static_verdict;
 use refusals::Judged;
@@ -16,7 +17,7 @@ use words::word_at;
 ghost use mathlib.Core.Path.{_≡_};
 ghost use mathlib.Core.List.{[]};
 ghost use Rattle.files.specs.Reading.{readOf};
-ghost use Rattle.telling.specs.Telling.{fileIn, sixLines, textOf};
+ghost use Rattle.telling.specs.Telling.{fileIn, answerLines, textOf};
 ghost use Rattle.telling.specs.Held.{held, put};
 pub use lines::put_asked;
 pub use lines::put_case;
@@ -25,7 +26,7 @@ pub use lines::put_refusal;
 pub use lines::put_verdict;
 pub use text::Text;
 
-// What the program writes for this input: six lines, or the one line of a refusal. No input is too short or too long.
+// What the program writes for this input: the lines of a case's answers, or the one line of a refusal. No input is too short or too long.
 pub fn tell(input: &[u8]) -> Text
     ensures { λ r. ⌜ r ≡ held (textOf (now (input .entry))) ⌝ }
 {
@@ -35,7 +36,7 @@ pub fn tell(input: &[u8]) -> Text
     let judged = file.judged;
     match judged.or_else(judge_number(t)) {
         Judged::Refused(refusal) => put_refusal(Text::empty(), refusal),
-        Judged::Good => six_lines(file.held, t, limit),
+        Judged::Good => answer_lines(file.held, t, limit),
     }
 }
 
@@ -50,13 +51,14 @@ fn read_file(input: &[u8]) -> FileRead
     }
 }
 
-// The six lines for a case.
-fn six_lines(case: Case, t: u32, limit: u32) -> Text
-    ensures { λ r. ⌜ r ≡ put (held []) (sixLines case t limit) ⌝ }
+// The lines for a case, a line for each answer in the order of the questions.
+fn answer_lines(case: Case, t: u32, limit: u32) -> Text
+    ensures { λ r. ⌜ r ≡ put (held []) (answerLines case t limit) ⌝ }
 {
     let head = put_asked(put_case(Text::empty(), case.counts), t, limit);
     let planned = put_plan(head, plan(case, limit));
     let fixed = put_verdict(planned, b"static", static_verdict(case, t, limit));
     let growing = put_verdict(fixed, b"decremental", decremental_verdict(case, t, limit));
-    put_verdict(growing, b"dynamic", dynamic_verdict(case, t, limit))
+    let struck = put_verdict(growing, b"one-shot", one_shot_verdict(case, t, limit));
+    put_verdict(struck, b"dynamic", dynamic_verdict(case, t, limit))
 }

@@ -13,7 +13,7 @@ pub struct Text {
 
 impl Text {
     // No text of the program is longer.
-    pub const ROOM: usize = 444;
+    pub const ROOM: usize = 560;
 
     // Nothing is written yet.
     pub fn empty() -> Text

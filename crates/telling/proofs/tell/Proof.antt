@@ -36,8 +36,8 @@ put-refusal-requires c κs = search needs
 enum-told : tie.Need-enum-told
 enum-told c = search needs
 
-six-lines-requires : tie.Need-six-lines-requires
-six-lines-requires c κs = search needs
+answer-lines-requires : tie.Need-answer-lines-requires
+answer-lines-requires c κs = search needs
 
 returns : tie.Need-returns
 returns c =
@@ -58,7 +58,7 @@ returns-2 c =
     let twelve = c .before .before .before .before .judge-number .ensures in
     let judged = input-judged _ _ _ _ _ file t twelve (c .before .before .before .or-else .ensures) in
     let limit = c .before .before .before .before .before .before .long-at .ensures in
-    told-good _ _ _ _ _ bytes (judged ∙ c .before .enum-told .given .1) file t limit (c .six-lines .ensures)
+    told-good _ _ _ _ _ bytes (judged ∙ c .before .enum-told .given .1) file t limit (c .answer-lines .ensures)
 
 pub tell-spec : {M : Type 1} → statement M
 tell-spec =
@@ -74,6 +74,6 @@ tell-spec =
     empty-requires
     put-refusal-requires
     enum-told
-    six-lines-requires
+    answer-lines-requires
     returns
     returns-2)
