@@ -341,13 +341,17 @@ module _ (c : Case) where
       order A B (inl n) (inr m) l = n .1 (m .0)
       order A B (inr n) (inr m) l = static-order t A B (n .1) (m .1) l
 
-  -- where nobody is shown, it is a pass that beats the desk, never an empty strike
-  pub oneShot-empty : (t : ℕ) → OneShotNo c t 0 → AnswersPass c t → ⊥
-  oneShot-empty t n g = go (steps c) refl (oneShot-no t 0 .1 n)
+  -- nobody is shown exactly if a pass beats the desk: an empty strike never does where a pass does not
+  pub oneShot-pass : (t A : ℕ) → OneShotNo c t A → (A ≡ 0) ↔ (AnswersPass c t → ⊥)
+  oneShot-pass t A n = (λ e g. go (steps c) A refl e (oneShot-no t A .1 n) g, λ f. back f (n .beats))
     where
-      go : (k : ℕ) → steps c ≡ k → oneShot (chain c) t k [] .got ≡ some 0 → ⊥
-      go zero h x = Option·none-ne-some {A = ℕ} 0 (unfold oneShot in x)
-      go (suc k) h x = empty-is-pass (chain c) t k [] (oneShot-shown (chain c) t k [] 0 x) (pass-same t k h .1 g)
+      go : (k B : ℕ) → steps c ≡ k → B ≡ 0 → oneShot (chain c) t k [] .got ≡ some B → AnswersPass c t → ⊥
+      go zero B h e x g = Option·none-ne-some B (unfold oneShot in x)
+      go (suc k) B h e x g = empty-is-pass (chain c) t k [] B e (oneShot-shown (chain c) t k [] B x) (pass-same t k h .1 g)
+
+      back : (AnswersPass c t → ⊥) → ((A ≡ 0) × (AnswersPass c t → ⊥)) ⊎ (AnswersPass c t × StaticNo c t A) → A ≡ 0
+      back f (inl h) = h .0
+      back f (inr h) = absurd (f (h .0))
 
   -- ---- dynamic
 

@@ -70,8 +70,8 @@ module _ (G : Arena) where
       go (inr h) = inr (a .0 (lacking-exactly {C = ℕ} 0 (pass .got) .0 (h .0)), static-shown G t (suc k) p A (h .1))
 
   -- where nobody is shown, it is the pass: after an answered pass the steps can be done with nobody away
-  pub empty-is-pass : (t k : ℕ) (p : G .Pos) → OneShotShown t k p 0 → PassAnswered t k p → ⊥
-  empty-is-pass t k p (inl h) r = h .1 r
-  empty-is-pass t k p (inr h) r =
+  pub empty-is-pass : (t k : ℕ) (p : G .Pos) (A : ℕ) → A ≡ 0 → OneShotShown t k p A → PassAnswered t k p → ⊥
+  empty-is-pass t k p A e (inl h) r = h .1 r
+  empty-is-pass t k p A e (inr h) r =
       let l = static→planned (G .people) (Round G) t k (r .0) (oneShot→static (G .people) (Round G) t k (r .0) (r .2)) in
-      h .1 .unplanned (l .0, (r .0, r .1, l .1))
+      h .1 .unplanned (subst (λ B. Planned (G .people) (Round G) B (suc k) p) (sym e) (l .0, (r .0, r .1, l .1)))

@@ -38,7 +38,7 @@ use Rattle.asking.specs.Table.{questionTable, awayTable, adviceTable}
 use Rattle.asking.proofs.Exact.{question-exactly, away-exactly, advice-exactly}
 use Rattle.asking.proofs.Calls.{question-order, away-order, advice-order}
 use Rattle.planner.specs.declared.Question.{Question}
-use Rattle.planner.specs.declared.Question.the-variants.{Static, Decremental, Dynamic}
+use Rattle.planner.specs.declared.Question.the-variants.{Static, Decremental, OneShot, Dynamic}
 use Rattle.planner.specs.Answers.{planGiven, verdictGiven, adviceGiven, awayGiven}
 use Rattle.planner.specs.Calls.{planCall, walkOf, questionCall, adviceCall, awayCall}
 use Rattle.planner.specs.Told.{Told, refused, answered, planTold, verdictTold, adviceTold, awayTold}
@@ -91,7 +91,7 @@ case-by-table c n place h = judged-by-table (caseTable c) (judgedCase c) (case-e
 pub plan-by-table : (c : Case) (l : ℕ) → ByTable (caseTable c) (planTold (planCall c l))
 plan-by-table c l = subst (ByTable (caseTable c)) (sym (plan-told c l)) (by-table (caseTable c) (judgedCase c) (cut l (planOf c)) (case-exactly c))
 
--- Static, decremental and dynamic: 4, 7 to 11, then 12.
+-- Static, decremental, one-shot and dynamic: 4, 7 to 11, then 12.
 pub question-by-table : (q : Question) (c : Case) (t l : ℕ) → ByTable (questionTable c t) (verdictTold (questionCall q c t l))
 question-by-table q c t l =
     subst (ByTable (questionTable c t)) (sym (question-told q c t l)) (by-table (questionTable c t) (judgedQuestion c t) (cut l (walkOf q c t)) (question-exactly c t))
@@ -143,6 +143,7 @@ module _ (c d : Case) (same : SameBelow c d) where
       walk-same : (q : Question) → walkOf q c t ≡ walkOf q d t
       walk-same Static = walks-same .static t
       walk-same Decremental = walks-same .decremental t
+      walk-same OneShot = walks-same .oneShot t
       walk-same Dynamic = walks-same .dynamic t
 
   pub advice-above : (p : List ℕ) (t A l : ℕ) → adviceCall c p t A l ≡ adviceCall d p t A l

@@ -12,22 +12,22 @@ use Rattle.games.specs.Limit.{Ended, limit, ended, cut}
 use Rattle.cases.specs.declared.Case.{Case}
 use Rattle.cases.specs.Case.{people, steps}
 use Rattle.cases.specs.Plans.{Plan, FirstPlan}
-use Rattle.cases.specs.Questions.{HasPlan, StaticYes, DecrementalYes, DynamicYes}
-use Rattle.cases.specs.Shown.{StaticNo, DecrementalNo}
+use Rattle.cases.specs.Questions.{HasPlan, StaticYes, DecrementalYes, OneShotYes, DynamicYes}
+use Rattle.cases.specs.Shown.{StaticNo, DecrementalNo, AnswersPass, OneShotNo}
 use Rattle.cases.specs.Play.{GoodSet}
 use Rattle.cases.specs.Chain.{planOf, adviceAt, awayAt}
-use Rattle.cases.proofs.Answers.{plan-exact, plan-first-got, static-exact, static-no, decremental-exact, decremental-no, dynamic-exact}
+use Rattle.cases.proofs.Answers.{plan-exact, plan-first-got, static-exact, static-no, decremental-exact, decremental-no, oneShot-exact, oneShot-no, oneShot-pass, dynamic-exact}
 use Rattle.cases.proofs.Play.{dynamic-no}
 use Rattle.refusals.specs.declared.Judged.{Judged}
 use Rattle.refusals.specs.declared.Judged.the-variants.{Good, Refused}
 use Rattle.refusals.specs.CaseChecks.{judgedCase}
 use Rattle.asking.specs.Asking.{judgedQuestion, judgedAdvice, judgedAway}
 use Rattle.planner.specs.declared.Question.{Question}
-use Rattle.planner.specs.declared.Question.the-variants.{Static, Decremental, Dynamic}
+use Rattle.planner.specs.declared.Question.the-variants.{Static, Decremental, OneShot, Dynamic}
 use Rattle.planner.specs.declared.PlanSays.the-variants as says
 use Rattle.planner.specs.Answers.{planGiven}
 use Rattle.cases.specs.Positions.{startPosition}
-use Rattle.planner.specs.Calls.{planCall, walkOf, questionCall, staticCall, decrementalCall, dynamicCall, adviceCall, awayCall}
+use Rattle.planner.specs.Calls.{planCall, walkOf, questionCall, staticCall, decrementalCall, oneShotCall, dynamicCall, adviceCall, awayCall}
 use Rattle.planner.specs.Told.{Told, planTold, verdictTold, adviceTold, awayTold}
 use Rattle.promises.specs.Ends.{SaysLimit, EndsAfter, Ends, Came}
 use Rattle.promises.proofs.Telling.{told, came, comes, limit-told, plan-told, question-told, advice-told, away-told}
@@ -84,6 +84,11 @@ module _ (c : Case) (t l : ℕ) (b : Option ℕ) where
       let k = question-came Decremental c t l b (e .0) (e .1) in
       (λ x. decremental-exact c t .0 (k .got ∙ x), λ y. sym (k .got) ∙ decremental-exact c t .1 y)
 
+  pub one-shot-yes : Ends (verdictTold (oneShotCall c t l)) b → (b ≡ none) ↔ OneShotYes c t
+  one-shot-yes e =
+      let k = question-came OneShot c t l b (e .0) (e .1) in
+      (λ x. oneShot-exact c t .0 (k .got ∙ x), λ y. sym (k .got) ∙ oneShot-exact c t .1 y)
+
   pub dynamic-yes : Ends (verdictTold (dynamicCall c t l)) b → (b ≡ none) ↔ DynamicYes c t
   dynamic-yes e =
       let k = question-came Dynamic c t l b (e .0) (e .1) in
@@ -97,6 +102,14 @@ module _ (c : Case) (t l A : ℕ) where
   -- the first set that beats the desk when named before the first step
   pub decremental-shows : Ends (verdictTold (decrementalCall c t l)) (some A) → DecrementalNo c t A
   decremental-shows e = decremental-no c t A .0 (question-came Decremental c t l (some A) (e .0) (e .1) .got)
+
+  -- nobody for a pass that beats the desk, else the first set that beats it when struck before the first step
+  pub one-shot-shows : Ends (verdictTold (oneShotCall c t l)) (some A) → OneShotNo c t A
+  one-shot-shows e = oneShot-no c t A .0 (question-came OneShot c t l (some A) (e .0) (e .1) .got)
+
+  -- and nobody is shown exactly for a pass
+  pub one-shot-shows-pass : Ends (verdictTold (oneShotCall c t l)) (some A) → (A ≡ 0) ↔ (AnswersPass c t → ⊥)
+  one-shot-shows-pass e = oneShot-pass c t A (one-shot-shows e)
 
   -- the good people at the start, at most t of them
   pub dynamic-shows : Ends (verdictTold (dynamicCall c t l)) (some A) → (0 < steps c) × Absent (people c) t A × GoodSet c t [] A

@@ -21,15 +21,15 @@ use Rattle.cases.specs.Play.{WinsFrom, LeavesGood, GoodSet, Names, Dodges}
 use Rattle.cases.specs.Chain.{adviceAt, awayAt}
 use Rattle.cases.proofs.Rounds.{may-known, start-valid, snoc-each, last-able, prefix-valid, valid-short}
 use Rattle.cases.proofs.Positions.{map-append}
-use Rattle.cases.proofs.Answers.{plan-exact, dynamic-exact, dynamic-decremental, decremental-static, static-plan}
+use Rattle.cases.proofs.Answers.{plan-exact, dynamic-exact, dynamic-decremental, decremental-oneShot, oneShot-static, static-plan}
 use Rattle.cases.proofs.Play.{away-names, away-none-more, advice-names, advice-names-none, away-none-wins}
 use Rattle.cases.proofs.Play as play
 use Rattle.refusals.specs.declared.Judged.the-variants.{Good}
 use Rattle.asking.specs.Asking.{judgedQuestion, judgedAdvice, judgedAway}
 use Rattle.asking.proofs.Accepted.{GoodPosition}
 use Rattle.asking.proofs.Calls.{advice-good, away-good}
-use Rattle.planner.specs.declared.Question.the-variants.{Static, Decremental, Dynamic as Dyn}
-use Rattle.planner.specs.Calls.{planCall, staticCall, decrementalCall, dynamicCall, adviceCall, awayCall}
+use Rattle.planner.specs.declared.Question.the-variants.{Static, Decremental, OneShot, Dynamic as Dyn}
+use Rattle.planner.specs.Calls.{planCall, staticCall, decrementalCall, oneShotCall, dynamicCall, adviceCall, awayCall}
 use Rattle.planner.specs.Told.{planTold, verdictTold, adviceTold, awayTold}
 use Rattle.promises.specs.Ends.{Ends}
 use Rattle.promises.specs.Rounds.{Round, AllAbsent, Advises, AdvisedWithin, EachWithin, Followed, AwayWithin, Dodged, AllPresent}
@@ -168,14 +168,23 @@ module _ (c : Case) (t : ℕ) where
       let k = question-came Dyn c t l (some A) (e .0) (e .1) in
       play.no-plan-dodges c t A q (k .got) p (dodges (k .accepted) q (p .valid) d)
 
-  -- ---- Dynamic yes gives decremental yes, that gives static yes, and that a plan
+  -- ---- Dynamic yes gives decremental yes, that gives one-shot yes, that gives static yes, and that a plan
 
   pub dynamic-gives-decremental : (l m : ℕ) (b : Option ℕ) → Ends (verdictTold (dynamicCall c t l)) none → Ends (verdictTold (decrementalCall c t m)) b → b ≡ none
   dynamic-gives-decremental l m b e f =
       sym (question-came Decremental c t m b (f .0) (f .1) .got) ∙ dynamic-decremental c t (question-came Dyn c t l none (e .0) (e .1) .got)
 
+  pub decremental-gives-one-shot : (l m : ℕ) (b : Option ℕ) → Ends (verdictTold (decrementalCall c t l)) none → Ends (verdictTold (oneShotCall c t m)) b → b ≡ none
+  decremental-gives-one-shot l m b e f =
+      sym (question-came OneShot c t m b (f .0) (f .1) .got) ∙ decremental-oneShot c t (question-came Decremental c t l none (e .0) (e .1) .got)
+
+  pub one-shot-gives-static : (l m : ℕ) (b : Option ℕ) → Ends (verdictTold (oneShotCall c t l)) none → Ends (verdictTold (staticCall c t m)) b → b ≡ none
+  one-shot-gives-static l m b e f = sym (question-came Static c t m b (f .0) (f .1) .got) ∙ oneShot-static c t (question-came OneShot c t l none (e .0) (e .1) .got)
+
+  -- and so, from the two before, also where one-shot is not asked
   pub decremental-gives-static : (l m : ℕ) (b : Option ℕ) → Ends (verdictTold (decrementalCall c t l)) none → Ends (verdictTold (staticCall c t m)) b → b ≡ none
-  decremental-gives-static l m b e f = sym (question-came Static c t m b (f .0) (f .1) .got) ∙ decremental-static c t (question-came Decremental c t l none (e .0) (e .1) .got)
+  decremental-gives-static l m b e f =
+      sym (question-came Static c t m b (f .0) (f .1) .got) ∙ oneShot-static c t (decremental-oneShot c t (question-came Decremental c t l none (e .0) (e .1) .got))
 
   pub static-gives-plan : (l m : ℕ) (b : Option (List ℕ)) → Ends (verdictTold (staticCall c t l)) none → Ends (planTold (planCall c m)) b → (q : List ℕ) × (b ≡ some q)
   static-gives-plan l m b e f =

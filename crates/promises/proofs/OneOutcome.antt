@@ -93,6 +93,7 @@ use Rattle.writing.proofs.write.Reads as write-reads
 use Rattle.planner.proofs.plan.Reads as plan-reads
 use Rattle.planner.proofs.static_verdict.Reads as static-verdict-reads
 use Rattle.planner.proofs.decremental_verdict.Reads as decremental-verdict-reads
+use Rattle.planner.proofs.one_shot_verdict.Reads as one-shot-verdict-reads
 use Rattle.planner.proofs.dynamic_verdict.Reads as dynamic-verdict-reads
 use Rattle.planner.proofs.advice.Reads as advice-reads
 use Rattle.planner.proofs.away.Reads as away-reads
@@ -110,6 +111,7 @@ use Rattle.rodcrank.proofs.rodcrank_judge.Reads as rodcrank-judge-reads
 use Rattle.rodcrank.proofs.rodcrank_plan.Reads as rodcrank-plan-reads
 use Rattle.rodcrank.proofs.rodcrank_static.Reads as rodcrank-static-reads
 use Rattle.rodcrank.proofs.rodcrank_decremental.Reads as rodcrank-decremental-reads
+use Rattle.rodcrank.proofs.rodcrank_one_shot.Reads as rodcrank-one-shot-reads
 use Rattle.rodcrank.proofs.rodcrank_dynamic.Reads as rodcrank-dynamic-reads
 use Rattle.rodcrank.proofs.rodcrank_advice.Reads as rodcrank-advice-reads
 use Rattle.rodcrank.proofs.rodcrank_away.Reads as rodcrank-away-reads
@@ -419,6 +421,9 @@ static-verdict-one κs args r s x y p q = p ∙ sym q
 pub decremental-verdict-one : (κs : _) (args : _) (r s : _) (x y : _) → decremental-verdict-reads.Post κs args r x → decremental-verdict-reads.Post κs args s y → r ≡ s
 decremental-verdict-one κs args r s x y p q = p ∙ sym q
 
+pub one-shot-verdict-one : (κs : _) (args : _) (r s : _) (x y : _) → one-shot-verdict-reads.Post κs args r x → one-shot-verdict-reads.Post κs args s y → r ≡ s
+one-shot-verdict-one κs args r s x y p q = p ∙ sym q
+
 pub dynamic-verdict-one : (κs : _) (args : _) (r s : _) (x y : _) → dynamic-verdict-reads.Post κs args r x → dynamic-verdict-reads.Post κs args s y → r ≡ s
 dynamic-verdict-one κs args r s x y p q = p ∙ sym q
 
@@ -473,6 +478,9 @@ rodcrank-static-one κs args r s x y p q = p ∙ sym q
 
 pub rodcrank-decremental-one : (κs : _) (args : _) (r s : _) (x y : _) → rodcrank-decremental-reads.Post κs args r x → rodcrank-decremental-reads.Post κs args s y → now (x .1 .1 .1 .0) ≡ now (y .1 .1 .1 .0)
 rodcrank-decremental-one κs args r s x y p q = p ∙ sym q
+
+pub rodcrank-one-shot-one : (κs : _) (args : _) (r s : _) (x y : _) → rodcrank-one-shot-reads.Post κs args r x → rodcrank-one-shot-reads.Post κs args s y → now (x .1 .1 .1 .0) ≡ now (y .1 .1 .1 .0)
+rodcrank-one-shot-one κs args r s x y p q = p ∙ sym q
 
 pub rodcrank-dynamic-one : (κs : _) (args : _) (r s : _) (x y : _) → rodcrank-dynamic-reads.Post κs args r x → rodcrank-dynamic-reads.Post κs args s y → now (x .1 .1 .1 .0) ≡ now (y .1 .1 .1 .0)
 rodcrank-dynamic-one κs args r s x y p q = p ∙ sym q

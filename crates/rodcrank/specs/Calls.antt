@@ -17,7 +17,7 @@ use Rattle.asking.specs.Asking.{judgedAway}
 use Rattle.planner.specs.declared.PlanAnswer.{PlanAnswer}
 use Rattle.planner.specs.declared.AdviceAnswer.{AdviceAnswer}
 use Rattle.planner.specs.declared.AdviceAnswer.the-variants as advice
-use Rattle.planner.specs.Calls.{planCall, staticCall, decrementalCall, dynamicCall, adviceCall, awayCall}
+use Rattle.planner.specs.Calls.{planCall, staticCall, decrementalCall, oneShotCall, dynamicCall, adviceCall, awayCall}
 use Rattle.rodcrank.specs.Replies.{saysYes, refusedReply, saidReply, planReply, verdictReply, adviceReply, awayReply}
 use Rattle.rodcrank.specs.Pairs.{personsIn}
 
@@ -42,6 +42,9 @@ staticFile f t l = ifGood (judgedFile f) (verdictReply (staticCall (caseOf f) t 
 
 unfoldable pub decrementalFile : List ℕ → ℕ → ℕ → List ℕ
 decrementalFile f t l = ifGood (judgedFile f) (verdictReply (decrementalCall (caseOf f) t l))
+
+unfoldable pub oneShotFile : List ℕ → ℕ → ℕ → List ℕ
+oneShotFile f t l = ifGood (judgedFile f) (verdictReply (oneShotCall (caseOf f) t l))
 
 unfoldable pub dynamicFile : List ℕ → ℕ → ℕ → List ℕ
 dynamicFile f t l = ifGood (judgedFile f) (verdictReply (dynamicCall (caseOf f) t l))

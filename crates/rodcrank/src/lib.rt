@@ -15,6 +15,7 @@ use planner::advice;
 use planner::away;
 use planner::decremental_verdict;
 use planner::dynamic_verdict;
+use planner::one_shot_verdict;
 use planner::plan;
 use planner::static_verdict;
 use refusals::Judged;
@@ -37,7 +38,7 @@ ghost use Rattle.cases.specs.Positions.{persons};
 ghost use Rattle.refusals.specs.Refusals.{refusal};
 ghost use Rattle.asking.specs.Asking.{judgedAway};
 ghost use Rattle.telling.specs.Telling.{textOf};
-ghost use Rattle.rodcrank.specs.Calls.{judgeFile, planFile, staticFile, decrementalFile, dynamicFile, unknownAbsent, adviceOn, adviceFile, awayFile, filledWith};
+ghost use Rattle.rodcrank.specs.Calls.{judgeFile, planFile, staticFile, decrementalFile, oneShotFile, dynamicFile, unknownAbsent, adviceOn, adviceFile, awayFile, filledWith};
 pub use replies::LIMIT;
 pub use replies::NAMED;
 pub use replies::NO;
@@ -107,6 +108,23 @@ pub extern "C" fn rodcrank_decremental(file: &[u8], t: u32, limit: u32, out: &mu
         }
         Judged::Good => {
             *out = verdict_reply(decremental_verdict(got.held, t, limit));
+        }
+    }
+}
+
+// The one-shot verdict, in the same way.
+#[no_mangle]
+pub extern "C" fn rodcrank_one_shot(file: &[u8], t: u32, limit: u32, out: &mut [u64; NUMBERS])
+    ensures { λ _. ⌜ now (out .exit) ≡ oneShotFile (now (file .entry)) t limit ⌝ }
+{
+    let got = read(file);
+    let judged = got.judged;
+    match judged {
+        Judged::Refused(refusal) => {
+            *out = refused(refusal);
+        }
+        Judged::Good => {
+            *out = verdict_reply(one_shot_verdict(got.held, t, limit));
         }
     }
 }
