@@ -82,6 +82,7 @@ use Rattle.laying.proofs.lay_out.Reads as lay-out-reads
 use Rattle.walks.proofs.dynamic_walk.Reads as dynamic-walk-reads
 use Rattle.walks.proofs.away_turn.Reads as away-turn-reads
 use Rattle.walks.proofs.static_walk.Reads as static-walk-reads
+use Rattle.walks.proofs.one_shot_walk.Reads as one-shot-walk-reads
 use Rattle.walks.proofs.advice_walk.Reads as advice-walk-reads
 use Rattle.files.proofs.judge.Reads as judge-reads
 use Rattle.files.proofs.read.Reads as read-reads
@@ -381,6 +382,9 @@ away-turn-one κs args r s x y p q = verdict-same _ r s (p ∙ sym q)
 
 pub static-walk-one : (κs : _) (args : _) (r s : _) (x y : _) → static-walk-reads.Post κs args r x → static-walk-reads.Post κs args s y → r ≡ s
 static-walk-one κs args r s x y p q = verdict-same _ r s (p ∙ sym q)
+
+pub one-shot-walk-one : (κs : _) (args : _) (r s : _) (x y : _) → one-shot-walk-reads.Post κs args r x → one-shot-walk-reads.Post κs args s y → r ≡ s
+one-shot-walk-one κs args r s x y p q = verdict-same _ r s (p ∙ sym q)
 
 pub advice-walk-one : (κs : _) (args : _) (r s : _) (x y : _) → advice-walk-reads.Post κs args r x → advice-walk-reads.Post κs args s y → r ≡ s
 advice-walk-one κs args r s x y p q = advised-same _ r s (p ∙ sym q)
