@@ -10,7 +10,7 @@
 //     rules I A B C D ..             rules from entry I on, four numbers each: form, relation, step, group
 //
 //     plan LIMIT
-//     static LIMIT T                 and decremental and dynamic alike
+//     static LIMIT T                 and decremental, one-shot and dynamic alike
 //     advice LIMIT T ABSENT N A B .. at a position of length N, with A, B .. in its entries
 //     away LIMIT T N A B ..          alike
 //     follow LIMIT T A B ..          advice asked for and followed from the start on, with the sets A, B .. absent in turn
@@ -34,6 +34,7 @@ use planner::advice;
 use planner::away;
 use planner::decremental_verdict;
 use planner::dynamic_verdict;
+use planner::one_shot_verdict;
 use planner::plan;
 use planner::static_verdict;
 use playing::dodge;
@@ -107,6 +108,10 @@ fn ask(text: &[u8], line: Line, case: Case) {
     }
     if starts(text, b"decremental ") {
         say_verdict(decremental_verdict(case, t, limit));
+        return;
+    }
+    if starts(text, b"one-shot ") {
+        say_verdict(one_shot_verdict(case, t, limit));
         return;
     }
     if starts(text, b"dynamic ") {

@@ -39,8 +39,12 @@ fn stopped() {
     show(b"limit 9", fire, 1, 9);
     show(b"limit 11", fire, 1, 11);
     show(b"limit 12", fire, 1, 12);
+    show(b"limit 14", fire, 1, 14);
+    show(b"limit 15", fire, 1, 15);
     show(b"t 2, limit 7", fire, 2, 7);
     show(b"t 2, limit 15", fire, 2, 15);
+    show(b"t 2, limit 17", fire, 2, 17);
+    show(b"t 2, limit 18", fire, 2, 18);
 }
 
 fn refused() {
