@@ -23,11 +23,11 @@
 extern "C" {
 #endif
 
-#define RODCRANK_VERSION 1 /* of this header */
+#define RODCRANK_VERSION 2 /* of this header; 1 had no rodcrank_one_shot, and a shorter text */
 #define RODCRANK_PEOPLE 32 /* the most people of a case */
 #define RODCRANK_STEPS 8   /* the most steps; part of the answer's layout */
 #define RODCRANK_FILE 1016 /* bytes of the longest file */
-#define RODCRANK_TEXT 444  /* bytes of the longest text of rodcrank_verdicts */
+#define RODCRANK_TEXT 560  /* bytes of the longest text of rodcrank_verdicts */
 
 /* A set of people. */
 typedef struct rodcrank_people {
@@ -69,6 +69,10 @@ void rodcrank_static(const uint8_t *file, size_t file_len, uint32_t t, uint32_t 
 /* Does the desk win where the absent may become more before each step, never above t over the whole job? YES; NO, and the
  * first-round set is shown; or LIMIT. Refused by 1 to 12. */
 void rodcrank_decremental(const uint8_t *file, size_t file_len, uint32_t t, uint32_t limit, rodcrank_answer *answer);
+
+/* Does the desk win where at most once, before one of the steps, at most t people go and stay away? YES; NO, and the first-round
+ * strike is shown, nobody where that round is passed; or LIMIT. Refused by 1 to 12. */
+void rodcrank_one_shot(const uint8_t *file, size_t file_len, uint32_t t, uint32_t limit, rodcrank_answer *answer);
 
 /* Does the desk win where any set of at most t people is away in each round? YES; NO, and the good people at the start are shown,
  * at most t of them; or LIMIT. Refused by 1 to 12. */

@@ -4,7 +4,7 @@
 //!
 //! usage: bench                 both workloads, timed
 //!        bench count W Q SIDE  one turn of one question alone, for a tool that counts instructions: workload 0 or 1, question 0 to
-//!                              5, side 0 (neither: only the files are made), 1 (library) or 2 (plain)
+//!                              6, side 0 (neither: only the files are made), 1 (library) or 2 (plain)
 #[path = "../plain/mod.rs"]
 mod plain;
 use plain::cases::{make, Dice, Shape};
@@ -35,7 +35,7 @@ fn of_set(set: &Option<People>) -> u64 {
     set.map_or(1, |s| 2 + s.low)
 }
 
-const QUESTIONS: [&str; 6] = ["plan", "static", "decremental", "dynamic", "advice", "away"];
+const QUESTIONS: [&str; 7] = ["plan", "static", "decremental", "one-shot", "dynamic", "advice", "away"];
 
 struct Workload {
     name: &'static str,
@@ -53,18 +53,20 @@ fn turn(w: &Workload, question: usize, library: bool) -> Sum {
                 let answer = if library { rodcrank::plan(file, limit) } else { plain::plan(file, limit) };
                 add(&mut sum, &answer, |p| p.as_ref().map_or(1, |who| who.iter().fold(2, |n, v| 33 * n + u64::from(*v))));
             }
-            1..=3 => {
+            1..=4 => {
                 let ask = match (question, library) {
                     (1, true) => rodcrank::static_verdict,
                     (1, false) => plain::static_verdict,
                     (2, true) => rodcrank::decremental_verdict,
                     (2, false) => plain::decremental_verdict,
+                    (3, true) => rodcrank::one_shot_verdict,
+                    (3, false) => plain::one_shot_verdict,
                     (_, true) => rodcrank::dynamic_verdict,
                     (_, false) => plain::dynamic_verdict,
                 };
                 add(&mut sum, &ask(file, t, limit), of_verdict);
             }
-            4 => {
+            5 => {
                 let absent = People { low: (1 << t) - 1, high: 0 };
                 let answer = if library { rodcrank::advice(file, &[], t, absent, limit) } else { plain::advice(file, &[], t, absent, limit) };
                 add(&mut sum, &answer, |m| m.map_or(1, |m| 2 + u64::from(m.person)));

@@ -229,15 +229,40 @@ impl Plain {
         Ok(false)
     }
 
-    fn unplanned(&self, t: u32, n: &mut Count) -> Result<Option<u32>, OverLimit> {
-        let mut set = if self.steps == 0 { None } else { Some(0) };
+    /// The first set in whose absence the position cannot be completed, if there is one.
+    fn unplanned_from(&self, t: u32, who: &mut [u8; 8], at: usize, n: &mut Count) -> Result<Option<u32>, OverLimit> {
+        let mut set = if at == self.steps { None } else { Some(0) };
         while let Some(a) = set {
-            if !self.plan_from(a, &mut [0; 8], 0, n)? {
+            if !self.plan_from(a, who, at, n)? {
                 return Ok(Some(a));
             }
             set = next_set(self.people, t, 0, a);
         }
         Ok(None)
+    }
+
+    /// What the away side that has not struck does to beat the desk, if it can: the set it strikes with, or for a pass the empty one.
+    fn struck_from(&self, t: u32, who: &mut [u8; 8], at: usize, n: &mut Count) -> Result<Option<u32>, OverLimit> {
+        if at == self.steps {
+            return Ok(None);
+        }
+        if !self.passed_from(t, who, at, n)? {
+            return Ok(Some(0));
+        }
+        self.unplanned_from(t, who, at, n)
+    }
+
+    fn passed_from(&self, t: u32, who: &mut [u8; 8], at: usize, n: &mut Count) -> Result<bool, OverLimit> {
+        let mut left = self.allowed[at];
+        while left != 0 {
+            who[at] = left.trailing_zeros() as u8;
+            left &= left - 1;
+            n.trial()?;
+            if self.keeps(who, at) && self.struck_from(t, who, at + 1, n)?.is_none() {
+                return Ok(true);
+            }
+        }
+        Ok(false)
     }
 
     /// 13: the position, in pairs of step and person. Its length, and its persons.
@@ -311,12 +336,17 @@ pub fn plan(file: &[u8], limit: u32) -> Answer<Option<Vec<u8>>> {
 
 pub fn static_verdict(file: &[u8], t: u32, limit: u32) -> Answer<Verdict> {
     let plain = asked(file, t)?;
-    Ok(end(limit, |n| plain.unplanned(t, n).map(verdict)))
+    Ok(end(limit, |n| plain.unplanned_from(t, &mut [0; 8], 0, n).map(verdict)))
 }
 
 pub fn decremental_verdict(file: &[u8], t: u32, limit: u32) -> Answer<Verdict> {
     let plain = asked(file, t)?;
     Ok(end(limit, |n| plain.beaten_from(t, 0, &mut [0; 8], 0, n).map(verdict)))
+}
+
+pub fn one_shot_verdict(file: &[u8], t: u32, limit: u32) -> Answer<Verdict> {
+    let plain = asked(file, t)?;
+    Ok(end(limit, |n| plain.struck_from(t, &mut [0; 8], 0, n).map(verdict)))
 }
 
 pub fn dynamic_verdict(file: &[u8], t: u32, limit: u32) -> Answer<Verdict> {
@@ -371,8 +401,8 @@ pub fn verdicts(input: &[u8]) -> Vec<u8> {
         Ok(Search::Limit { trials }) => format!("plan limit trials {}\n", trials),
         Err(_) => unreachable!(),
     };
-    let questions: [(&str, fn(&[u8], u32, u32) -> Answer<Verdict>); 3] =
-        [("static", static_verdict), ("decremental", decremental_verdict), ("dynamic", dynamic_verdict)];
+    let questions: [(&str, fn(&[u8], u32, u32) -> Answer<Verdict>); 4] =
+        [("static", static_verdict), ("decremental", decremental_verdict), ("one-shot", one_shot_verdict), ("dynamic", dynamic_verdict)];
     for (name, ask) in questions {
         text += &match ask(file, t, limit) {
             Ok(Search::Ended { got: Verdict::Yes, trials }) => format!("{} yes trials {}\n", name, trials),

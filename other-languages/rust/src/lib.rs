@@ -33,6 +33,7 @@ pub mod ffi {
         pub fn rodcrank_plan(file: *const u8, file_len: usize, limit: u32, answer: *mut Answer);
         pub fn rodcrank_static(file: *const u8, file_len: usize, t: u32, limit: u32, answer: *mut Answer);
         pub fn rodcrank_decremental(file: *const u8, file_len: usize, t: u32, limit: u32, answer: *mut Answer);
+        pub fn rodcrank_one_shot(file: *const u8, file_len: usize, t: u32, limit: u32, answer: *mut Answer);
         pub fn rodcrank_dynamic(file: *const u8, file_len: usize, t: u32, limit: u32, answer: *mut Answer);
         pub fn rodcrank_advice(
             file: *const u8,
@@ -51,7 +52,7 @@ pub mod ffi {
 }
 
 /// Bytes of the longest text of [`verdicts`].
-pub const TEXT: usize = 444;
+pub const TEXT: usize = 560;
 
 /// A set of people, as two words: bit v of `low` for person v, bit v - 64 of `high` for a person v above 63.
 #[derive(Clone, Copy, PartialEq, Eq, Hash, Debug, Default)]
@@ -214,6 +215,15 @@ pub fn decremental_verdict(file: &[u8], t: u32, limit: u32) -> Answer<Verdict> {
     let mut raw = ffi::Answer::default();
     // SAFETY: the file is lent for its whole length, and the answer is this function's own.
     unsafe { ffi::rodcrank_decremental(file.as_ptr(), file.len(), t, limit, &mut raw) };
+    ended(&raw, verdict)
+}
+
+/// Does the desk win where at most once, before one of the steps, at most t people go and stay away? A no shows the first-round strike, nobody for a
+/// pass.
+pub fn one_shot_verdict(file: &[u8], t: u32, limit: u32) -> Answer<Verdict> {
+    let mut raw = ffi::Answer::default();
+    // SAFETY: the file is lent for its whole length, and the answer is this function's own.
+    unsafe { ffi::rodcrank_one_shot(file.as_ptr(), file.len(), t, limit, &mut raw) };
     ended(&raw, verdict)
 }
 

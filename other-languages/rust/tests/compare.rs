@@ -167,9 +167,10 @@ fn compare(dice: &mut Dice, seen: &mut Seen, file: &[u8]) {
             let _ = same(seen, "plan one below", file, rodcrank::plan(file, trials - 1), Ok(Search::Limit { trials: trials - 1 }));
         }
     }
-    let questions: [(&str, Question, Question, RawQuestion); 3] = [
+    let questions: [(&str, Question, Question, RawQuestion); 4] = [
         ("static", rodcrank::static_verdict, plain::static_verdict, ffi::rodcrank_static),
         ("decremental", rodcrank::decremental_verdict, plain::decremental_verdict, ffi::rodcrank_decremental),
+        ("one-shot", rodcrank::one_shot_verdict, plain::one_shot_verdict, ffi::rodcrank_one_shot),
         ("dynamic", rodcrank::dynamic_verdict, plain::dynamic_verdict, ffi::rodcrank_dynamic),
     ];
     for (name, ours, theirs, in_c) in questions {
@@ -192,7 +193,7 @@ fn compare(dice: &mut Dice, seen: &mut Seen, file: &[u8]) {
         input.truncate(dice.below(7) as usize);
     }
     let text = same(seen, "verdicts", file, rodcrank::verdicts(&input), plain::verdicts(&input));
-    let room = dice.below(500) as usize;
+    let room = dice.below(600) as usize;
     let mut buffer = vec![7; room];
     // SAFETY: what is lent is readable for its whole length, or NULL with length 0; the text is this call's own.
     let length = unsafe { ffi::rodcrank_verdicts(lent(&input), input.len(), buffer.as_mut_ptr(), room) };
