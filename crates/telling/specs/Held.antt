@@ -7,8 +7,8 @@ use Rattle.sets.specs.Lists.{pick}
 use Rattle.telling.specs.declared.text.Text.{Text}
 
 -- How many bytes a text has room for. No text of the program is longer: the longest by form has counts at their limits (18 bytes), t 32 and
--- limit 4294967295 (27), a plan of eight persons with two digits each (51), and three verdicts that each show all 32 people (114, 119, 115), all
--- of them after 4294967295 trials.
+-- limit 4294967295 (27), a plan of eight persons with two digits each (51), and four verdicts that each show all 32 people (114, 119, 116,
+-- 115), all of them after 4294967295 trials.
 abbrev pub room : ℕ
 room = 560
 
