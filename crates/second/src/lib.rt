@@ -6,6 +6,7 @@
 mod absences;
 mod passes;
 mod play;
+mod strikes;
 mod tries;
 
 pub use absences::list_sets;
@@ -19,7 +20,8 @@ pub use play::away;
 pub use play::judged_absent;
 pub use play::judged_position;
 pub use play::node_of;
+pub use strikes::one_shot;
 pub use tries::Answer;
-pub use tries::Four;
+pub use tries::Five;
 pub use tries::MOST_TRIALS;
 pub use tries::within;

@@ -1,4 +1,4 @@
-// The four questions. Every pass goes over the nodes from the last one back, so that a node's kids are done before it.
+// The questions but one-shot. Every pass goes over the nodes from the last one back, so that a node's kids are done before it.
 use crate::tries::Answer;
 use crate::tries::member;
 use crate::tries::try_people;
@@ -24,7 +24,7 @@ use second_positions::set;
 use second_positions::sets;
 
 // Plans that use none of the absent, from every node.
-fn plan_pass(slate: &mut [usize; SLATE], absent: usize) {
+pub fn plan_pass(slate: &mut [usize; SLATE], absent: usize) {
     let n = nodes(slate);
     let mut i: usize = 0;
     while i < n {

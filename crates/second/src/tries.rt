@@ -19,11 +19,12 @@ pub struct Answer {
     pub trials: usize,
 }
 
-// The answers to the four questions.
-pub struct Four {
+// The answers to the five questions: plan, static, decremental, one-shot and dynamic.
+pub struct Five {
     pub plan: Answer,
     pub fixed: Answer,
     pub growing: Answer,
+    pub struck: Answer,
     pub changing: Answer,
 }
 

@@ -114,12 +114,13 @@ fn packed(p: Position) -> usize {
     who
 }
 
-// The questions: 0 plan, 1 static, 2 decremental, 3 dynamic.
+// The questions: 0 plan, 1 static, 2 decremental, 3 one-shot, 4 dynamic.
 pub fn ask_verdict(question: usize, case: Case, t: u32, limit: u32) -> Answer {
     match question {
         0 => ask_plan(case, limit),
         1 => verdict_told(planner::static_verdict(case, t, limit)),
         2 => verdict_told(planner::decremental_verdict(case, t, limit)),
+        3 => verdict_told(planner::one_shot_verdict(case, t, limit)),
         _ => verdict_told(planner::dynamic_verdict(case, t, limit)),
     }
 }

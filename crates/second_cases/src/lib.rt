@@ -1,13 +1,14 @@
 // Good cases compared: every question, at several limits, its play, the program's text and the exported calls.
 use cases::Case;
 use second::Answer;
-use second::Four;
+use second::Five;
 use second::MOST_TRIALS;
 use second::decremental;
 use second::dynamic;
 use second::first_plan;
 use second::has_room;
 use second::list_sets;
+use second::one_shot;
 use second::static_answer;
 use second::within;
 use second_calls::ask_judge;
@@ -58,8 +59,8 @@ pub fn try_case(
     count_case(tally);
     let lent = first(file, length);
     let ours = judged(file, length);
-    expect(tally, file, length, 6, ours.number == 0);
-    compare(tally, file, length, 6, refused_told(ours), ask_judge(lent));
+    expect(tally, file, length, 7, ours.number == 0);
+    compare(tally, file, length, 7, refused_told(ours), ask_judge(lent));
     let r = files::read(lent);
     let held = r.held;
     try_parts(tally, file, length, true);
@@ -83,7 +84,7 @@ fn try_t_above(
     case: Case,
 ) {
     let t = to_32(plus(33, below(seed, 70000)));
-    let question = plus(1, below(seed, 3));
+    let question = plus(1, below(seed, 4));
     let ours = refused_told(turned_by(12, 0));
     compare(
         tally,
@@ -109,6 +110,8 @@ fn try_questions(
     if list_sets(slate, t) {
         let fixed = static_answer(slate);
         ask_at_limits(tally, file, length, 1, case, t, fixed);
+        let struck = one_shot(slate);
+        ask_at_limits(tally, file, length, 3, case, t, struck);
         let changing = try_changing(seed, slate, tally, file, length, case, t);
         try_all(
             seed,
@@ -120,6 +123,7 @@ fn try_questions(
             t,
             plan,
             fixed,
+            struck,
             changing,
         );
     } else {
@@ -139,12 +143,12 @@ fn try_changing(
 ) -> Answer {
     let ours = dynamic(slate, t);
     let full = case_of(seed, file, 4294967296);
-    ask_at_limits(tally, file, length, 3, full, t, ours);
+    ask_at_limits(tally, file, length, 4, full, t, ours);
     try_play(seed, slate, tally, file, length, case, t, ours);
     ours
 }
 
-// The decremental question; and then, with all four answers, the text and the exported functions.
+// The decremental question; and then, with all five answers, the chain of games, the text and the exported functions.
 fn try_all(
     seed: &mut [usize; 1],
     slate: &mut [usize; SLATE],
@@ -155,23 +159,40 @@ fn try_all(
     t: usize,
     plan: Answer,
     fixed: Answer,
+    struck: Answer,
     changing: Answer,
 ) {
     if has_room(slate) {
         let growing = decremental(slate);
         ask_at_limits(tally, file, length, 2, case, t, growing);
-        let four = Four {
+        let five = Five {
             plan: plan,
             fixed: fixed,
             growing: growing,
+            struck: struck,
             changing: changing,
         };
-        count_apart(tally, four);
-        try_text(seed, tally, file, length, t, four);
-        try_exported(seed, slate, tally, file, length, t, four);
+        expect(tally, file, length, 16, is_chain(five));
+        count_apart(tally, five);
+        try_text(seed, tally, file, length, t, five);
+        try_exported(seed, slate, tally, file, length, t, five);
     } else {
         count(tally, plus(GIVEN_UP, 2));
     }
+}
+
+// Is every game won that is easier than one that is won?
+fn is_chain(five: Five) -> bool {
+    if five.plan.says < five.fixed.says {
+        return false;
+    }
+    if five.fixed.says < five.struck.says {
+        return false;
+    }
+    if five.struck.says < five.growing.says {
+        return false;
+    }
+    five.changing.says <= five.growing.says
 }
 
 // At the largest limit, at the exact count and one below; or at a small limit only, where the walk is long.

@@ -51,20 +51,20 @@ pub fn try_damaged(seed: &mut [usize; 1], tally: &mut [usize; TALLY], fault: usi
 fn try_file(seed: &mut [usize; 1], tally: &mut [usize; TALLY], file: &[u8; ROOM], length: usize) {
     let ours = judged(file, length);
     let lent = first(file, length);
-    compare(tally, file, length, 6, refused_told(ours), ask_judge(lent));
+    compare(tally, file, length, 7, refused_told(ours), ask_judge(lent));
     let r = files::read(lent);
     let theirs = r.judged;
     compare(
         tally,
         file,
         length,
-        6,
+        7,
         refused_told(ours),
         judged_told(theirs),
     );
     if ours.number != 0 {
         let held = r.held;
-        expect(tally, file, length, 6, same_case(held, Case::empty()));
+        expect(tally, file, length, 7, same_case(held, Case::empty()));
     }
     try_parts(tally, file, length, ours.number == 0);
     if ours.number != 0 {
@@ -116,7 +116,7 @@ fn try_refused_case(
     let t = to_32(below(seed, 40));
     let limit = to_32(below(seed, 3));
     let mut question: usize = 0;
-    while question < 4 {
+    while question < 5 {
         compare(
             tally,
             file,
@@ -132,7 +132,7 @@ fn try_refused_case(
         tally,
         file,
         length,
-        4,
+        5,
         ours,
         ask_advice(case, position, t, below(seed, 64), limit),
     );
@@ -140,7 +140,7 @@ fn try_refused_case(
         tally,
         file,
         length,
-        5,
+        6,
         ours,
         ask_away(case, position, t, limit),
     );

@@ -4,6 +4,7 @@ use rodcrank::rodcrank_away;
 use rodcrank::rodcrank_decremental;
 use rodcrank::rodcrank_dynamic;
 use rodcrank::rodcrank_judge;
+use rodcrank::rodcrank_one_shot;
 use rodcrank::rodcrank_plan;
 use rodcrank::rodcrank_static;
 use second_replies::REPLY;
@@ -17,13 +18,14 @@ pub fn call_judge(file: &[u8]) -> [u64; REPLY] {
     out
 }
 
-// The questions: 0 plan, 1 static, 2 decremental, 3 dynamic.
+// The questions: 0 plan, 1 static, 2 decremental, 3 one-shot, 4 dynamic.
 pub fn call_question(question: usize, file: &[u8], t: u32, limit: u32) -> [u64; REPLY] {
     let mut out = [MARK; REPLY];
     match question {
         0 => rodcrank_plan(file, limit, &mut out),
         1 => rodcrank_static(file, t, limit, &mut out),
         2 => rodcrank_decremental(file, t, limit, &mut out),
+        3 => rodcrank_one_shot(file, t, limit, &mut out),
         _ => rodcrank_dynamic(file, t, limit, &mut out),
     }
     out

@@ -4,7 +4,7 @@ use crate::calls::call_away;
 use crate::calls::call_judge;
 use crate::calls::call_question;
 use second::Answer;
-use second::Four;
+use second::Five;
 use second::advice;
 use second::away;
 use second::judged_absent;
@@ -51,7 +51,7 @@ pub fn try_exported(
     file: &[u8; ROOM],
     length: usize,
     t: usize,
-    four: Four,
+    five: Five,
 ) {
     let good = Answer {
         says: 1,
@@ -60,22 +60,24 @@ pub fn try_exported(
     };
     let theirs = call_judge(first(file, length));
     compare_reply(tally, file, length, 0, good, judged_reply(good), theirs);
-    let plan = four.plan;
+    let plan = five.plan;
     try_question(seed, tally, file, length, 0, t, plan);
-    let fixed = four.fixed;
+    let fixed = five.fixed;
     try_question(seed, tally, file, length, 1, t, fixed);
-    let growing = four.growing;
+    let growing = five.growing;
     try_question(seed, tally, file, length, 2, t, growing);
-    let changing = four.changing;
-    try_question(seed, tally, file, length, 3, t, changing);
+    let struck = five.struck;
+    try_question(seed, tally, file, length, 3, t, struck);
+    let changing = five.changing;
+    try_question(seed, tally, file, length, 4, t, changing);
     let above = refused_told(turned_by(12, 0));
-    let question = plus(1, below(seed, 3));
+    let question = plus(1, below(seed, 4));
     let high = plus(33, below(seed, 4294967263));
     try_question(seed, tally, file, length, question, high, above);
     try_positions(seed, slate, tally, file, length, t);
 }
 
-// One of the four questions, 0 plan, 1 static, 2 decremental, 3 dynamic, at a limit by chance.
+// One of the five questions, 0 plan, 1 static, 2 decremental, 3 one-shot, 4 dynamic, at a limit by chance.
 fn try_question(
     seed: &mut [usize; 1],
     tally: &mut [usize; TALLY],
@@ -162,7 +164,7 @@ fn try_advice(
     );
     let said = within(limit, ours);
     let reply = advice_reply(said, entries(p));
-    compare_reply(tally, file, length, 5, said, reply, theirs);
+    compare_reply(tally, file, length, 6, said, reply, theirs);
 }
 
 fn wide(x: usize) -> u64 {
@@ -221,7 +223,7 @@ fn try_away(
         limit_of(limit),
     );
     let said = within(limit, ours);
-    compare_reply(tally, file, length, 6, said, away_reply(said), theirs);
+    compare_reply(tally, file, length, 7, said, away_reply(said), theirs);
 }
 
 fn our_away(slate: &[usize; SLATE], file: &[u8; ROOM], p: Pairs, t: usize) -> Answer {
@@ -246,7 +248,7 @@ pub fn try_refused_exported(
     compare_reply(tally, file, length, 0, ours, reply, call_judge(lent));
     let t = below(seed, 40);
     let mut question: usize = 0;
-    while question < 4 {
+    while question < 5 {
         try_question(seed, tally, file, length, question, t, ours);
         question += 1;
     }
@@ -260,9 +262,9 @@ pub fn try_refused_exported(
     let lent_position = first(&position, p.n);
     let limit = limit_of(below(seed, 3));
     let a = call_advice(lent, lent_position, to_32(t), 1, 0, limit);
-    compare_reply(tally, file, length, 5, ours, reply, a);
+    compare_reply(tally, file, length, 6, ours, reply, a);
     let b = call_away(lent, lent_position, to_32(t), limit);
-    compare_reply(tally, file, length, 6, ours, reply, b);
+    compare_reply(tally, file, length, 7, ours, reply, b);
 }
 
 // Counts a call, and tells a difference.

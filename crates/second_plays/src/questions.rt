@@ -41,12 +41,12 @@ pub fn try_advice(
     let most = limit_for(seed, ours);
     let position = position_of(asked.who, asked.length);
     let theirs = ask_advice(case, position, to_32(t), absent, limit_of(most));
-    compare(tally, file, length, 4, within(most, ours), theirs);
+    compare(tally, file, length, 5, within(most, ours), theirs);
     if below(seed, 10) == 0 {
         let high = plus(33, below(seed, 100));
         let refused = refused_told(turned_by(12, 0));
         let then = ask_advice(case, position, to_32(high), absent, limit_of(most));
-        compare(tally, file, length, 4, refused, then);
+        compare(tally, file, length, 5, refused, then);
     }
 }
 
@@ -82,12 +82,12 @@ pub fn try_away(
     let most = limit_for(seed, ours);
     let position = position_of(asked.who, asked.length);
     let theirs = ask_away(case, position, to_32(t), limit_of(most));
-    compare(tally, file, length, 5, within(most, ours), theirs);
+    compare(tally, file, length, 6, within(most, ours), theirs);
     if below(seed, 10) == 0 {
         let high = plus(33, below(seed, 100));
         let refused = refused_told(turned_by(12, 0));
         let then = ask_away(case, position, to_32(high), limit_of(most));
-        compare(tally, file, length, 5, refused, then);
+        compare(tally, file, length, 6, refused, then);
     }
 }
 

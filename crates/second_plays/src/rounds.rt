@@ -46,7 +46,7 @@ pub fn play_desk(
         at = desk_round(seed, slate, tally, file, length, case, t, at);
         round += 1;
     }
-    expect(tally, file, length, 4, is_plan(slate, at));
+    expect(tally, file, length, 5, is_plan(slate, at));
 }
 
 // Was every move to a valid position, and is it full?
@@ -79,11 +79,11 @@ fn desk_round(
         tally,
         file,
         length,
-        4,
+        5,
         advice(slate, at.node, absent),
         theirs,
     );
-    expect(tally, file, length, 4, !has(absent, theirs.shown));
+    expect(tally, file, length, 5, !has(absent, theirs.shown));
     moved(slate, at, theirs.shown)
 }
 
@@ -110,7 +110,7 @@ pub fn play_away(
         at = moved(slate, at, v);
         round += 1;
     }
-    expect(tally, file, length, 5, false);
+    expect(tally, file, length, 6, false);
 }
 
 // Whom the planner keeps away, at most t people.
@@ -125,7 +125,7 @@ fn named_away(
 ) -> usize {
     let position = position_of(at.who, at.length);
     let theirs = ask_away(case, position, to_32(t), 4294967295);
-    compare(tally, file, length, 5, away(slate, at.node, t), theirs);
-    expect(tally, file, length, 5, size(theirs.shown) <= t);
+    compare(tally, file, length, 6, away(slate, at.node, t), theirs);
+    expect(tally, file, length, 6, size(theirs.shown) <= t);
     theirs.shown
 }

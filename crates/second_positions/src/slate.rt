@@ -39,6 +39,10 @@ pub const DESK: usize = 77824;
 
 pub const AWAY: usize = 79872;
 
+pub const STRUCK: usize = 280576;
+
+pub const ONE_SHOT: usize = 282624;
+
 pub fn get(slate: &[usize; SLATE], i: usize) -> usize {
     if i < 300000 { slate[i] } else { 0 }
 }

@@ -1,11 +1,11 @@
 // The tally's entries.
 use second::Answer;
-use second::Four;
+use second::Five;
 use second::MOST_TRIALS;
 use second_files::plus;
 use second_files::times;
 
-pub const TALLY: usize = 288;
+pub const TALLY: usize = 368;
 
 pub const DIFFERENCES: usize = 0;
 
@@ -29,7 +29,7 @@ pub const AWAY_GAMES: usize = 10;
 // For room: all questions; questions about absence; the decremental one, and with it the text and the exported functions.
 pub const GIVEN_UP: usize = 11;
 
-// Texts with six lines, and with a refusal.
+// Texts with seven lines, and with a refusal.
 pub const TEXTS: usize = 14;
 
 // Refusals by number.
@@ -39,25 +39,25 @@ pub const REFUSALS: usize = 16;
 const ANSWERED: usize = 32;
 
 // By kind and question, calls that said no, yes, limit, or refused.
-const CALLS: usize = 96;
+const CALLS: usize = 160;
 
 // By question, cases whose answer is no, or yes, and took more than 2,000 trials.
-pub const LONG: usize = 224;
+pub const LONG: usize = 288;
 
 // By exported function, calls that said no, yes, limit, or refused.
-pub const EXPORTED: usize = 240;
+pub const EXPORTED: usize = 304;
 
-// By kind, cases with static yes and decremental no, and with decremental yes and dynamic no.
-pub const APART: usize = 272;
+// By kind, cases with static yes and one-shot no, with one-shot yes and decremental no, and with decremental yes and dynamic no.
+const APART: usize = 352;
 
 pub fn count(tally: &mut [usize; TALLY], i: usize) {
-    if i < 288 {
+    if i < 368 {
         tally[i] = plus(tally[i], 1);
     }
 }
 
 pub fn counted(tally: &[usize; TALLY], i: usize) -> usize {
-    if i < 288 { tally[i] } else { 0 }
+    if i < 368 { tally[i] } else { 0 }
 }
 
 // Inputs of a kind are tried from here on.
@@ -72,7 +72,12 @@ pub fn calls_at(kind: usize, question: usize) -> usize {
 
 // The first entry about the cases of a kind for a question.
 pub fn answered_at(kind: usize, question: usize) -> usize {
-    plus(ANSWERED, times(4, plus(times(4, kind), question)))
+    plus(ANSWERED, times(4, plus(times(8, kind), question)))
+}
+
+// The first entry about the cases of a kind in which the games come apart.
+pub fn apart_at(kind: usize) -> usize {
+    plus(APART, times(4, kind))
 }
 
 // Counts a good case of the kind in hand.
@@ -94,13 +99,16 @@ pub fn count_answer(tally: &mut [usize; TALLY], question: usize, ours: Answer) {
 }
 
 // Counts a case in which the games come apart.
-pub fn count_apart(tally: &mut [usize; TALLY], four: Four) {
-    let at = plus(APART, times(2, counted(tally, KIND)));
-    if are_apart(four.fixed, four.growing) {
+pub fn count_apart(tally: &mut [usize; TALLY], five: Five) {
+    let at = apart_at(counted(tally, KIND));
+    if are_apart(five.fixed, five.struck) {
         count(tally, at);
     }
-    if are_apart(four.growing, four.changing) {
+    if are_apart(five.struck, five.growing) {
         count(tally, plus(at, 1));
+    }
+    if are_apart(five.growing, five.changing) {
+        count(tally, plus(at, 2));
     }
 }
 

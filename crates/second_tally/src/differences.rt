@@ -8,7 +8,7 @@ use crate::printing::print_number;
 use second::Answer;
 use second_files::ROOM;
 
-// Counts a call, and tells a difference. Questions: 0 plan, 1 static, 2 decremental, 3 dynamic, 4 advice, 5 away, 6 judging, 7 writing.
+// Counts a call, and tells a difference. Questions: 0 plan, 1 static, 2 decremental, 3 one-shot, 4 dynamic, 5 advice, 6 away, 7 judging, 8 writing.
 pub fn compare(
     tally: &mut [usize; TALLY],
     file: &[u8; ROOM],
@@ -25,7 +25,9 @@ pub fn compare(
     }
 }
 
-// What must hold besides the answers: bytes that stay, cases that come back, games that end well, texts and numbers that are the same.
+// What must hold besides the answers: bytes that stay, cases that come back, games that end well, texts and numbers that are the same, and that who
+// wins a harder game wins an easier one. Beside the questions: 9 a file written again, 10 a case read again, 11 to 14 the parts, 15 the text, 16 the
+// chain of games, and from 20 on the exported functions.
 pub fn expect(
     tally: &mut [usize; TALLY],
     file: &[u8; ROOM],

@@ -1,5 +1,4 @@
 // The tally, printed.
-use crate::counts::APART;
 use crate::counts::AWAY_GAMES;
 use crate::counts::CASES;
 use crate::counts::DESK_GAMES;
@@ -14,6 +13,7 @@ use crate::counts::TEXTS;
 use crate::counts::TRIPS;
 use crate::counts::TWO_FAULTS;
 use crate::counts::answered_at;
+use crate::counts::apart_at;
 use crate::counts::calls_at;
 use crate::counts::counted;
 use second_files::minus;
@@ -66,9 +66,9 @@ fn print_line(tally: &[usize; TALLY], words: &[u8], i: usize) {
 // What was asked of the inputs of a kind, question by question.
 fn print_kind(tally: &[usize; TALLY], kind: usize) {
     let mut question: usize = 0;
-    while question < 6 {
+    while question < 7 {
         print_name(question);
-        if question < 4 {
+        if question < 5 {
             print_answered(tally, kind, answered_at(kind, question));
         }
         print_calls(tally, calls_at(kind, question));
@@ -79,13 +79,18 @@ fn print_kind(tally: &[usize; TALLY], kind: usize) {
 
 // Good cases of which the games say different things.
 fn print_apart(tally: &[usize; TALLY], kind: usize) {
-    let at = plus(APART, times(2, kind));
+    let at = apart_at(kind);
     if 0 < kind {
-        print_line(tally, b"  cases with static yes, decremental no", at);
+        print_line(tally, b"  cases with static yes, one-shot no", at);
+        print_line(
+            tally,
+            b"  cases with one-shot yes, decremental no",
+            plus(at, 1),
+        );
         print_line(
             tally,
             b"  cases with decremental yes, dynamic no",
-            plus(at, 1),
+            plus(at, 2),
         );
     }
 }
@@ -102,9 +107,12 @@ fn print_name(question: usize) {
             io::write_all(1, b"  decremental:");
         }
         3 => {
-            io::write_all(1, b"  dynamic:");
+            io::write_all(1, b"  one-shot:");
         }
         4 => {
+            io::write_all(1, b"  dynamic:");
+        }
+        5 => {
             io::write_all(1, b"  advice:");
         }
         _ => {
@@ -142,7 +150,7 @@ fn print_some(tally: &[usize; TALLY], words: &[u8], i: usize) {
 fn print_long(tally: &[usize; TALLY]) {
     io::write_all(1, b"cases answered after more than 2000 trials\n");
     let mut question: usize = 0;
-    while question < 4 {
+    while question < 5 {
         print_name(question);
         print_count(tally, b" yes", plus(LONG, plus(times(2, question), 1)));
         print_line(tally, b" no", plus(LONG, times(2, question)));
@@ -163,7 +171,7 @@ fn print_refusals(tally: &[usize; TALLY]) {
 fn print_exported(tally: &[usize; TALLY]) {
     io::write_all(1, b"exported functions\n");
     let mut function: usize = 0;
-    while function < 8 {
+    while function < 9 {
         print_function(function);
         print_calls(tally, plus(EXPORTED, times(4, function)));
         function += 1;
@@ -175,7 +183,7 @@ fn print_function(function: usize) {
         0 => {
             io::write_all(1, b"  judge:");
         }
-        7 => {
+        8 => {
             io::write_all(1, b"  verdicts:");
         }
         _ => print_name(minus(function, 1)),
@@ -183,7 +191,7 @@ fn print_function(function: usize) {
 }
 
 fn print_others(tally: &[usize; TALLY]) {
-    print_line(tally, b"texts of six lines", TEXTS);
+    print_line(tally, b"texts of seven lines", TEXTS);
     print_line(tally, b"texts of a refusal", plus(TEXTS, 1));
     print_line(tally, b"round trips from the file", TRIPS);
     print_line(tally, b"round trips from memory", plus(TRIPS, 1));

@@ -1,7 +1,7 @@
 // The program's text compared, byte for byte, with one written a second time from the second search's own answers; and the exported function that
 // puts it into a buffer. Nothing is promised here but safety.
 use rodcrank::rodcrank_verdicts;
-use second::Four;
+use second::Five;
 use second::MOST_TRIALS;
 use second::within;
 use second_draws::below;
@@ -34,20 +34,20 @@ const MARK: u8 = 165;
 // Room for t, the limit and a file.
 const INPUT: usize = 1046;
 
-// A good case with its answers: the six lines, at a limit by chance; and the refusal of a t above 32.
+// A good case with its answers: the seven lines, at a limit by chance; and the refusal of a t above 32.
 pub fn try_text(
     seed: &mut [usize; 1],
     tally: &mut [usize; TALLY],
     file: &[u8; ROOM],
     length: usize,
     t: usize,
-    four: Four,
+    five: Five,
 ) {
-    let limit = limit_for(seed, four);
+    let limit = limit_for(seed, five);
     let mut text = [0u8; TEXT];
-    let end = put_lines(&mut text, file, t, limit, four);
+    let end = put_lines(&mut text, file, t, limit, five);
     count(tally, TEXTS);
-    count_exported(tally, 7, 1);
+    count_exported(tally, 8, 1);
     let n = plus(6, length);
     try_input(seed, tally, file, length, t, limit, n, &text, end);
     let high = plus(33, below(seed, 65503));
@@ -55,34 +55,36 @@ pub fn try_text(
     try_refused_text(seed, tally, file, length, high, limit, n, above);
 }
 
-// The six lines.
+// The seven lines.
 fn put_lines(
     text: &mut [u8; TEXT],
     file: &[u8; ROOM],
     t: usize,
     limit: usize,
-    four: Four,
+    five: Five,
 ) -> usize {
     let a = put_case(text, 0, file);
     let b = put_asked(text, a, t, limit);
-    let c = put_plan(text, b, steps(file), within(limit, four.plan));
-    let d = put_verdict(text, c, b"static", within(limit, four.fixed));
-    let e = put_verdict(text, d, b"decremental", within(limit, four.growing));
-    put_verdict(text, e, b"dynamic", within(limit, four.changing))
+    let c = put_plan(text, b, steps(file), within(limit, five.plan));
+    let d = put_verdict(text, c, b"static", within(limit, five.fixed));
+    let e = put_verdict(text, d, b"decremental", within(limit, five.growing));
+    let f = put_verdict(text, e, b"one-shot", within(limit, five.struck));
+    put_verdict(text, f, b"dynamic", within(limit, five.changing))
 }
 
 // A limit: the exact count of one of the answers, one below, or the largest; and never a long walk.
-fn limit_for(seed: &mut [usize; 1], four: Four) -> usize {
-    let trials = match below(seed, 4) {
-        0 => four.plan.trials,
-        1 => four.fixed.trials,
-        2 => four.growing.trials,
-        _ => four.changing.trials,
+fn limit_for(seed: &mut [usize; 1], five: Five) -> usize {
+    let trials = match below(seed, 5) {
+        0 => five.plan.trials,
+        1 => five.fixed.trials,
+        2 => five.growing.trials,
+        3 => five.struck.trials,
+        _ => five.changing.trials,
     };
     let limit = match below(seed, 3) {
         0 => minus(trials, 1),
         1 => trials,
-        _ => largest(four),
+        _ => largest(five),
     };
     if MOST_TRIALS < limit {
         if limit < 4294967295 {
@@ -93,17 +95,20 @@ fn limit_for(seed: &mut [usize; 1], four: Four) -> usize {
 }
 
 // The largest limit where all walks are short.
-fn largest(four: Four) -> usize {
-    if MOST_TRIALS < four.plan.trials {
+fn largest(five: Five) -> usize {
+    if MOST_TRIALS < five.plan.trials {
         return MOST_TRIALS;
     }
-    if MOST_TRIALS < four.fixed.trials {
+    if MOST_TRIALS < five.fixed.trials {
         return MOST_TRIALS;
     }
-    if MOST_TRIALS < four.growing.trials {
+    if MOST_TRIALS < five.growing.trials {
         return MOST_TRIALS;
     }
-    if MOST_TRIALS < four.changing.trials {
+    if MOST_TRIALS < five.struck.trials {
+        return MOST_TRIALS;
+    }
+    if MOST_TRIALS < five.changing.trials {
         return MOST_TRIALS;
     }
     4294967295
@@ -123,7 +128,7 @@ pub fn try_refused_text(
     let mut text = [0u8; TEXT];
     let end = put_refused(&mut text, 0, turned);
     count(tally, plus(TEXTS, 1));
-    count_exported(tally, 7, 3);
+    count_exported(tally, 8, 3);
     try_input(seed, tally, file, length, t, limit, n, &text, end);
 }
 
@@ -208,7 +213,7 @@ fn expect_text(
     end: usize,
 ) {
     if !same {
-        if is_first(tally, file, length, 8) {
+        if is_first(tally, file, length, 15) {
             io::write_all(1, first(text, end));
         }
     }

@@ -33,18 +33,18 @@ pub fn try_parts(tally: &mut [usize; TALLY], file: &[u8; ROOM], length: usize, g
     let b = row_at(file, 0, 0);
     let c = rule_at(file, 0);
     let p = is_part(files::people_part(lent), file, 24, if_good(good, 24, a));
-    expect(tally, file, length, 10, p);
+    expect(tally, file, length, 11, p);
     let q = is_part(files::steps_part(lent), file, a, if_good(good, a, b));
-    expect(tally, file, length, 11, q);
+    expect(tally, file, length, 12, q);
     let r = is_part(files::tables_part(lent), file, b, if_good(good, b, c));
-    expect(tally, file, length, 12, r);
+    expect(tally, file, length, 13, r);
     let s = is_part(
         files::rules_part(lent),
         file,
         c,
         if_good(good, c, total(file)),
     );
-    expect(tally, file, length, 13, s);
+    expect(tally, file, length, 14, s);
 }
 
 fn if_good(good: bool, from: usize, to: usize) -> usize {
@@ -80,10 +80,10 @@ pub fn try_refused_write(
 ) {
     let mut buffer = [MARK; ROOM];
     let theirs = written_told(writing::write(case, &mut buffer));
-    compare(tally, file, length, 7, ours, theirs);
+    compare(tally, file, length, 8, ours, theirs);
     let short = written_told(writing::write(case, &mut buffer[0..10]));
-    compare(tally, file, length, 7, ours, short);
-    expect(tally, file, length, 7, marked_from(&buffer, 0));
+    compare(tally, file, length, 8, ours, short);
+    expect(tally, file, length, 8, marked_from(&buffer, 0));
 }
 
 // Do all bytes from a place on have the mark?
@@ -120,9 +120,9 @@ pub fn try_from_file(tally: &mut [usize; TALLY], file: &[u8; ROOM], length: usiz
         shown: length,
         trials: 0,
     };
-    compare(tally, file, length, 7, ours, theirs);
-    expect(tally, file, length, 8, is_file(&buffer, file, length));
-    expect(tally, file, length, 8, marked_from(&buffer, length));
+    compare(tally, file, length, 8, ours, theirs);
+    expect(tally, file, length, 9, is_file(&buffer, file, length));
+    expect(tally, file, length, 9, marked_from(&buffer, length));
 }
 
 // A case in memory with junk above its counts, written and read again: the same case, with zero above its counts.
@@ -139,7 +139,7 @@ pub fn try_from_memory(
     writing::write(full, &mut buffer);
     let r = files::read(first(&buffer, length));
     let held = r.held;
-    expect(tally, file, length, 9, same_case(held, plain));
+    expect(tally, file, length, 10, same_case(held, plain));
 }
 
 // A buffer that is too short: 15, and every byte stays.
@@ -158,10 +158,10 @@ pub fn try_short(
             tally,
             file,
             length,
-            7,
+            8,
             refused_told(turned_by(15, 0)),
             theirs,
         );
-        expect(tally, file, length, 7, marked_from(&buffer, 0));
+        expect(tally, file, length, 8, marked_from(&buffer, 0));
     }
 }

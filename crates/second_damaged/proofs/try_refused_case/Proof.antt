@@ -8,7 +8,7 @@ abbrev Inv-loop : tie.InvT-loop
 Inv-loop seed tally₀ file length case ours t limit question₀ tally question = Unit
 
 abbrev μ-loop : tie.MeasureT-loop
-μ-loop seed tally₀ file length case ours t limit question₀ tally question = 4 - question
+μ-loop seed tally₀ file length case ours t limit question₀ tally question = 5 - question
 
 below-requires : tie.Need-below-requires Inv-loop μ-loop
 below-requires c κs = search needs

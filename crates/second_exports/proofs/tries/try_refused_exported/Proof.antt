@@ -8,7 +8,7 @@ abbrev Inv-loop : tie.InvT-loop
 Inv-loop seed₀ tally₀ file length ours reply lent t question₀ seed tally question = Unit
 
 abbrev μ-loop : tie.MeasureT-loop
-μ-loop seed₀ tally₀ file length ours reply lent t question₀ seed tally question = 4 - question
+μ-loop seed₀ tally₀ file length ours reply lent t question₀ seed tally question = 5 - question
 
 refused-told-requires : tie.Need-refused-told-requires Inv-loop μ-loop
 refused-told-requires c κs = search needs

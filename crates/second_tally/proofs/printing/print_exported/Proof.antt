@@ -8,7 +8,7 @@ abbrev Inv-loop : tie.InvT-loop
 Inv-loop tally function₀ function = Unit
 
 abbrev μ-loop : tie.MeasureT-loop
-μ-loop tally function₀ function = 8 - function
+μ-loop tally function₀ function = 9 - function
 
 slice-aggregate-write-all : tie.Need-slice-aggregate-write-all Inv-loop μ-loop
 slice-aggregate-write-all c = search needs

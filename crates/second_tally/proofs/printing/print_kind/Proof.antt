@@ -8,7 +8,7 @@ abbrev Inv-loop : tie.InvT-loop
 Inv-loop tally kind question₀ question = Unit
 
 abbrev μ-loop : tie.MeasureT-loop
-μ-loop tally kind question₀ question = 6 - question
+μ-loop tally kind question₀ question = 7 - question
 
 loop-holds : tie.Need-loop-holds Inv-loop μ-loop
 loop-holds c = search needs

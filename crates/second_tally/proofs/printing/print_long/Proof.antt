@@ -8,7 +8,7 @@ abbrev Inv-loop : tie.InvT-loop
 Inv-loop tally question₀ t4 t5 question = Unit
 
 abbrev μ-loop : tie.MeasureT-loop
-μ-loop tally question₀ t4 t5 question = 4 - question
+μ-loop tally question₀ t4 t5 question = 5 - question
 
 slice-aggregate-write-all : tie.Need-slice-aggregate-write-all Inv-loop μ-loop
 slice-aggregate-write-all c = search needs
