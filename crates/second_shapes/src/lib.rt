@@ -37,8 +37,17 @@ pub fn small(seed: &mut [usize; 1]) -> Drawn {
     plain(people, steps, roles, tables, rules, odds, t)
 }
 
+// Middle ones, each turn of another kind.
+pub fn middle(seed: &mut [usize; 1], turn: usize) -> Drawn {
+    if turn % 2 == 0 {
+        some_people(seed)
+    } else {
+        few_pairs(seed)
+    }
+}
+
 // Up to 8 people and 5 steps.
-pub fn middle(seed: &mut [usize; 1]) -> Drawn {
+fn some_people(seed: &mut [usize; 1]) -> Drawn {
     let people = from(seed, 4, 8);
     let steps = from(seed, 2, 5);
     let roles = from(seed, 2, 6);
@@ -47,6 +56,15 @@ pub fn middle(seed: &mut [usize; 1]) -> Drawn {
     let odds = from(seed, 3, 5);
     let t = from(seed, 0, 3);
     plain(people, steps, roles, tables, rules, odds, t)
+}
+
+// One rule, most often about a table with few pairs, and t of 2: the games come apart often, also those with one strike and with more.
+fn few_pairs(seed: &mut [usize; 1]) -> Drawn {
+    let people = from(seed, 6, 8);
+    let steps = from(seed, 2, 4);
+    let roles = from(seed, 2, 4);
+    let odds = from(seed, 6, 7);
+    mild(plain(people, steps, roles, 6, 1, odds, 2), 8, 2)
 }
 
 // Large ones, each turn of another kind.
