@@ -60,6 +60,19 @@ pub fn try_exported(
     };
     let theirs = call_judge(first(file, length));
     compare_reply(tally, file, length, 0, good, judged_reply(good), theirs);
+    try_questions(seed, tally, file, length, t, five);
+    try_t_above(seed, tally, file, length);
+    try_positions(seed, slate, tally, file, length, t);
+}
+
+fn try_questions(
+    seed: &mut [usize; 1],
+    tally: &mut [usize; TALLY],
+    file: &[u8; ROOM],
+    length: usize,
+    t: usize,
+    five: Five,
+) {
     let plan = five.plan;
     try_question(seed, tally, file, length, 0, t, plan);
     let fixed = five.fixed;
@@ -70,11 +83,19 @@ pub fn try_exported(
     try_question(seed, tally, file, length, 3, t, struck);
     let changing = five.changing;
     try_question(seed, tally, file, length, 4, t, changing);
+}
+
+// t above 32 is 12, but not for the plan.
+fn try_t_above(
+    seed: &mut [usize; 1],
+    tally: &mut [usize; TALLY],
+    file: &[u8; ROOM],
+    length: usize,
+) {
     let above = refused_told(turned_by(12, 0));
     let question = plus(1, below(seed, 4));
     let high = plus(33, below(seed, 4294967263));
     try_question(seed, tally, file, length, question, high, above);
-    try_positions(seed, slate, tally, file, length, t);
 }
 
 // One of the five questions, 0 plan, 1 static, 2 decremental, 3 one-shot, 4 dynamic, at a limit by chance.
