@@ -61,7 +61,7 @@ fn some_people(seed: &mut [usize; 1]) -> Drawn {
 // One rule, most often about a table with few pairs, and t of 2: the games come apart often, also those with one strike and with more.
 fn few_pairs(seed: &mut [usize; 1]) -> Drawn {
     let people = from(seed, 6, 8);
-    let steps = from(seed, 2, 4);
+    let steps = from(seed, 2, 3);
     let roles = from(seed, 2, 4);
     let odds = from(seed, 6, 7);
     mild(plain(people, steps, roles, 6, 1, odds, 2), 8, 2)

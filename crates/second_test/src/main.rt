@@ -48,7 +48,7 @@ fn try_small_cases(seed: &mut [usize; 1], slate: &mut [usize; SLATE], tally: &mu
 
 fn try_middle_cases(seed: &mut [usize; 1], slate: &mut [usize; SLATE], tally: &mut [usize; TALLY]) {
     let mut i: usize = 0;
-    while i < 400 {
+    while i < 600 {
         let d = middle(seed, i);
         try_drawn(seed, slate, tally, d);
         i += 1;

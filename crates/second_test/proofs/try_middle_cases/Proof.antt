@@ -8,7 +8,7 @@ abbrev Inv-loop : tie.InvT-loop
 Inv-loop seed₀ slate₀ tally₀ i₀ seed slate tally i = Unit
 
 abbrev μ-loop : tie.MeasureT-loop
-μ-loop seed₀ slate₀ tally₀ i₀ seed slate tally i = 400 - i
+μ-loop seed₀ slate₀ tally₀ i₀ seed slate tally i = 600 - i
 
 loop-holds : tie.Need-loop-holds Inv-loop μ-loop
 loop-holds c = search needs
