@@ -26,7 +26,7 @@ use Rattle.cases.specs.declared.Case.{Case}
 use Rattle.cases.specs.Case.{people, steps}
 use Rattle.cases.specs.Plans.{Valid, Plan, Without, FirstPlan}
 use Rattle.cases.specs.Questions.{HasPlan, StaticYes, Placed, DecrementalYes, OneShotYes, DynamicYes}
-use Rattle.cases.specs.Shown.{StaticNo, Answers, DecrementalNo, AnswersPass, OneShotNo}
+use Rattle.cases.specs.Shown.{StaticNo, Answers, DecrementalNo, AnswersPass, FirstStrike, OneShotNo}
 use Rattle.cases.specs.Chain.{chain, planOf, staticOf, decrementalOf, oneShotOf, dynamicOf}
 use Rattle.cases.proofs.Rounds.{start-valid, prefix-valid, valid-short, round-placed, placed-round, round-placed-person, placed-round-person, line-valid, valid-line, without-start, planned-plan}
 
@@ -214,7 +214,7 @@ module _ (c : Case) where
   static-shows : (t A : ℕ) → No (staticOf c t) A → StaticNo c t A
   static-shows t A e = without-plan t A (static-shown (chain c) t (steps c) [] A e)
 
-  -- every set has a plan or some set has none; and of two first sets without one neither is lower
+  -- not both: every set has a plan, and some set has none; and of two first sets without one neither is lower
   static-clash : (t A : ℕ) → StaticNo c t A → StaticYes c t → ⊥
   static-clash t A n y = let q = y A (n .absent) in n .unplanned (q .0) (q .1) (q .2)
 
@@ -280,7 +280,7 @@ module _ (c : Case) where
       let s = oneShot-same t (steps c) [] (start-valid c) in
       (λ x. s .0 (e .0 x), λ g. e .1 (s .1 g))
 
-  -- that gives static yes
+  -- one-shot yes gives static yes
   pub oneShot-static : (t : ℕ) → Yes (oneShotOf c t) → Yes (staticOf c t)
   oneShot-static t e =
       static-exactly (chain c) t (steps c) [] .1 (oneShot→static (people c) (Round (chain c)) t (steps c) [] (oneShot-exactly (chain c) t (steps c) [] .0 e))
@@ -331,11 +331,11 @@ module _ (c : Case) where
       clash : (A : ℕ) → OneShotNo c t A → OneShotYes c t → ⊥
       clash A n y = at (n .beats)
         where
-          at : ((A ≡ 0) × (AnswersPass c t → ⊥)) ⊎ (AnswersPass c t × StaticNo c t A) → ⊥
+          at : FirstStrike c t A → ⊥
           at (inl h) = h .1 (answers (n .step) y)
           at (inr h) = static-clash t A (h .1) (static-exact t .0 (oneShot-static t (oneShot-exact t .1 y)))
 
-      order : (A B : ℕ) → ((A ≡ 0) × (AnswersPass c t → ⊥)) ⊎ (AnswersPass c t × StaticNo c t A) → ((B ≡ 0) × (AnswersPass c t → ⊥)) ⊎ (AnswersPass c t × StaticNo c t B)
+      order : (A B : ℕ) → FirstStrike c t A → FirstStrike c t B
           → A < B → ⊥
       order A B n (inl m) l = let e = m .0 in omega arith
       order A B (inl n) (inr m) l = n .1 (m .0)
@@ -349,7 +349,7 @@ module _ (c : Case) where
       go zero B h e x g = Option·none-ne-some B (unfold oneShot in x)
       go (suc k) B h e x g = empty-is-pass (chain c) t k [] B e (oneShot-shown (chain c) t k [] B x) (pass-same t k h .1 g)
 
-      back : (AnswersPass c t → ⊥) → ((A ≡ 0) × (AnswersPass c t → ⊥)) ⊎ (AnswersPass c t × StaticNo c t A) → A ≡ 0
+      back : (AnswersPass c t → ⊥) → FirstStrike c t A → A ≡ 0
       back f (inl h) = h .0
       back f (inr h) = absurd (f (h .0))
 

@@ -29,7 +29,7 @@ pub record Placed (c : Case) (A : ℕ) (p q : List ℕ) : Type 0 where
 abbrev pub DecrementalYes : Case → ℕ → Type 0
 DecrementalYes c t = Decremental (people c) (Placed c) t (steps c) 0 []
 
--- One-shot: does it, where before each step the away side passes or strikes, at most once, with at most t people who stay away?
+-- One-shot: does it, where before each step the away side passes or strikes, and strikes at most once, with at most t people, who stay away?
 abbrev pub OneShotYes : Case → ℕ → Type 0
 OneShotYes c t = OneShot (people c) (Placed c) t (steps c) []
 

@@ -30,9 +30,13 @@ pub record DecrementalNo (c : Case) (t A : ℕ) : Type 0 where
 abbrev pub AnswersPass : Case → ℕ → Type 0
 AnswersPass c t = (q : List ℕ) × Placed c 0 [] q × OneShot (people c) (Placed c) t (steps c - 1) q
 
--- One-shot: the empty set for a pass, where a pass before the first step beats the desk; else the first set, in ascending number, that beats it when
--- struck before the first step, so that there is no plan without these people.
+-- A is the empty set and a pass before the first step beats the desk; or the pass does not, and A is the first set, in ascending number, that beats it
+-- when struck before the first step: that is, without whom there is no plan
+abbrev pub FirstStrike : Case → ℕ → ℕ → Type 0
+FirstStrike c t A = ((A ≡ 0) × (AnswersPass c t → ⊥)) ⊎ (AnswersPass c t × StaticNo c t A)
+
+-- One-shot: the first-round strike, the empty set for a pass.
 pub record OneShotNo (c : Case) (t A : ℕ) : Type 0 where
   pub step : 0 < steps c
   pub absent : Absent (people c) t A
-  pub beats : ((A ≡ 0) × (AnswersPass c t → ⊥)) ⊎ (AnswersPass c t × StaticNo c t A)
+  pub beats : FirstStrike c t A

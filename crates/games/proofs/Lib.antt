@@ -3,9 +3,9 @@ pub mod Searches
 pub mod Verdicts
 pub mod Good
 pub mod Chain
-pub mod Strikes
 pub mod Limits
 pub mod Play
 pub mod Trials
+pub mod Strikes
 pub mod Matched
 pub mod Walks

@@ -11,7 +11,7 @@ use Rattle.sets.specs.Lists.{_∈_, consIf, upto, keep, any}
 use Rattle.sets.specs.Sets.{has}
 use Rattle.sets.proofs.Lists.{keep-in, keep-mem, upto-in, upto-mem, any-cong, any-mem, mem-any}
 use Rattle.games.specs.Arena.{Arena, Round}
-use Rattle.games.specs.Walks.{Walk, Search, plus, orElse, seek, try, lacking, ifNone, having, ifSome, mark, tally, present, tries, desk}
+use Rattle.games.specs.Walks.{Walk, Search, unbeaten, plus, orElse, seek, try, lacking, ifNone, having, ifSome, mark, tally, present, tries, desk}
 use Rattle.games.specs.Good.{passes, canLeave}
 
 -- ---- something or nothing
@@ -35,10 +35,6 @@ gets-lacking c (some b) = refl
 pub lacking-some : {B C : Type 0} (c x : C) (o : Option B) → lacking c o ≡ some x → (o ≡ none) × (c ≡ x)
 lacking-some c x none e = (refl, Option·some-injective c x e)
 lacking-some c x (some b) e = absurd (Option·none-ne-some x e)
-
-pub lacking-none : {B C : Type 0} (c : C) (o : Option B) → lacking c o ≡ none → gets o ≡ true
-lacking-none c none e = absurd (Option·some-ne-none c e)
-lacking-none c (some b) e = refl
 
 -- c is not got exactly if something is, and got exactly if nothing is
 pub lacking-exactly : {B C : Type 0} (c : C) (o : Option B) → (lacking c o ≡ none) ↔ (gets o ≡ true)
@@ -212,6 +208,16 @@ module _ (G : Arena) where
             seek-gets (tries G judge p) (present G A)
             ∙ mem-any (λ v. gets (tries G judge p v .got)) (present G A) (r .person) (present-mem A (r .person) (r .listed) (r .present))
             (tries-gets p (r .person) ∙ round-canLeave well A p (k .0) r (k .2))
+
+  -- a turn of the desk against the away side's next turn, whose verdict is a game's: it gets something exactly if some round leaves a won game
+  pub turn-wins : (next : G .Pos → Search ℕ) (Won : G .Pos → Type 0) → ((q : G .Pos) → (next q .got ≡ none) ↔ Won q) → (A : ℕ) (p : G .Pos)
+      → (gets (desk G (λ q. unbeaten (next q)) A p .got) ≡ true) ↔ ((q : G .Pos) × Round G A p q × Won q)
+  unfolding ifNone
+  turn-wins next Won ih A p =
+      let d = desk-wins (λ q. unbeaten (next q)) A p in (
+        λ e. let r = d .0 e in (r .0, r .1, ih (r .0) .0 (lacked-exactly (tt {0}) (next (r .0) .got) .0 (r .2))),
+        λ r. d .1 (r .0, r .1, lacked-exactly (tt {0}) (next (r .0) .got) .1 (ih (r .0) .1 (r .2))),
+      )
 
 -- ---- the tally: what it gets is the beginning of the whole list of those for whom something is got
 

@@ -1,24 +1,45 @@
 -- One-shot's verdict is its game's: nothing is got exactly if the desk wins; and what is got otherwise is the pass, or the first strike that beats it.
 use mathlib.Core.Path.{_≡_, refl, sym, ap, _∙_, subst}
 use mathlib.Core.Logic.{_⊎_, inl, inr, _↔_}
-use mathlib.Core.Option.{Option, none, some}
+use mathlib.Core.Option.{Option, none, some, Option·some-ne-none}
 use mathlib.Core.Bool.{true, true≢false}
-use Prim.Native.Nat.{ℕ, zero, suc}
+use Prim.Native.Nat.{ℕ, zero, suc, _+_}
 use Rattle.games.specs.Arena.{Arena, Round}
-use Rattle.games.specs.Walks.{Search, ifNone, orElse, lacking, desk, static, oneShot}
+use Rattle.games.specs.Walks.{Search, Yes, ifNone, unbeaten, orElse, plus, seek, lacking, desk, plan, static, oneShot}
 use Rattle.games.specs.Games.{Absent, Planned, OneShot}
-use Rattle.games.proofs.Searches.{gets, gets-none, lacking-some, lacking-exactly, lacked-exactly, neither, either-got, desk-wins}
+use Rattle.games.proofs.Searches.{gets, gets-none, lacking-some, lacking-exactly, neither, either-got, turn-wins}
+use Rattle.sets.specs.Sets.{sets}
+use Rattle.games.proofs.Trials.{sum, seek-trials}
 use Rattle.games.proofs.Verdicts.{nobody, static-exactly, StaticShown, static-shown}
 use Rattle.games.proofs.Chain.{oneShot→static, static→planned}
 
 module _ (G : Arena) where
-  -- the away side's next turn that the desk survives
-  survives : (t k : ℕ) → G .Pos → Search (Unit {0})
-  survives t k q = ifNone (tt {0}) (oneShot G t k q)
+  -- the desk's turn after a pass, with k steps left after it
+  abbrev pub afterPass : (t k : ℕ) → G .Pos → Search (Unit {0})
+  afterPass t k p = desk G (λ q. unbeaten (oneShot G t k q)) 0 p
 
-  -- the desk's turn after a pass
-  afterPass : (t k : ℕ) → G .Pos → Search (Unit {0})
-  afterPass t k p = desk G (survives t k) 0 p
+  -- the pass comes first: where it beats the desk nobody is shown, whatever the strikes would come to
+  pub pass-shown : (t k : ℕ) (p : G .Pos) → afterPass t k p .got ≡ none → oneShot G t (suc k) p .got ≡ some 0
+  unfolding oneShot ifNone orElse
+  pass-shown t k p e = at _ _ _ e
+    where
+      at : (o : Option (Unit {0})) (c : ℕ) (rest : Unit {0} → Search ℕ) → o ≡ none → orElse (lacking 0 o) c rest .got ≡ some 0
+      at none c rest h = refl
+      at (some b) c rest h = absurd (Option·some-ne-none b h)
+
+  -- a yes of the one-shot walk has tried the pass and every strike, the empty one among them
+  pub oneShot-trials : (t k : ℕ) (p : G .Pos) → Yes (oneShot G t (suc k) p)
+      → oneShot G t (suc k) p .trials ≡ afterPass t k p .trials + sum (λ A. plan G A (suc k) p .trials) (sets (G .people) t 0)
+  unfolding oneShot static ifNone orElse plus
+  oneShot-trials t k p e = go (lacking {C = ℕ} 0 (afterPass t k p .got)) e
+    where
+      strikes : Search ℕ
+      strikes = seek (λ A. ifNone A (plan G A (suc k) p)) (sets (G .people) t 0)
+
+      go : (o : Option ℕ) → orElse o (afterPass t k p .trials) (λ _. strikes) .got ≡ none
+          → orElse o (afterPass t k p .trials) (λ _. strikes) .trials ≡ afterPass t k p .trials + sum (λ A. plan G A (suc k) p .trials) (sets (G .people) t 0)
+      go none h = ap (λ (n : ℕ). afterPass t k p .trials + n) (seek-trials (λ A. ifNone A (plan G A (suc k) p)) (sets (G .people) t 0) h)
+      go (some b) h = absurd (Option·some-ne-none b h)
 
   -- the desk has an answer to a pass, after which it wins with k steps left
   abbrev pub PassAnswered : (t k : ℕ) → G .Pos → Type 0
@@ -28,15 +49,10 @@ module _ (G : Arena) where
   Exactly t k = (p : G .Pos) → (oneShot G t k p .got ≡ none) ↔ OneShot (G .people) (Round G) t k p
 
   answered : (t k : ℕ) → Exactly t k → (p : G .Pos) → (gets (afterPass t k p .got) ≡ true) ↔ PassAnswered t k p
-  unfolding afterPass survives ifNone
-  answered t k ih p =
-      let d = desk-wins G (survives t k) 0 p in (
-        λ e. let r = d .0 e in (r .0, r .1, ih (r .0) .0 (lacked-exactly (tt {0}) (oneShot G t k (r .0) .got) .0 (r .2))),
-        λ r. d .1 (r .0, r .1, lacked-exactly (tt {0}) (oneShot G t k (r .0) .got) .1 (ih (r .0) .1 (r .2))),
-      )
+  answered t k ih p = turn-wins G (oneShot G t k) (OneShot (G .people) (Round G) t k) ih 0 p
 
   pub oneShot-exactly : (t k : ℕ) (p : G .Pos) → (oneShot G t k p .got ≡ none) ↔ OneShot (G .people) (Round G) t k p
-  unfolding oneShot afterPass survives ifNone
+  unfolding oneShot ifNone
   oneShot-exactly t zero p = (λ e. tt, λ g. refl)
   oneShot-exactly t (suc k) p =
       let pass = afterPass t k p in
@@ -54,7 +70,7 @@ module _ (G : Arena) where
   OneShotShown t k p A = ((A ≡ 0) × (PassAnswered t k p → ⊥)) ⊎ (PassAnswered t k p × StaticShown G t (suc k) p A)
 
   pub oneShot-shown : (t k : ℕ) (p : G .Pos) (A : ℕ) → oneShot G t (suc k) p .got ≡ some A → OneShotShown t k p A
-  unfolding oneShot afterPass survives ifNone
+  unfolding oneShot ifNone
   oneShot-shown t k p A e = go (either-got (pass .trials) (λ _. static G t (suc k) p) (lacking {C = ℕ} 0 (pass .got)) A e)
     where
       pass : Search (Unit {0})

@@ -10,10 +10,10 @@ use borrow.Author.Tests.{leb-true}
 use lib.Dec.{leb}
 use lib.ListN.{length}
 use Rattle.sets.specs.Lists.{_∈_, upto}
-use Rattle.sets.specs.Sets.{setFrom, sets}
+use Rattle.sets.specs.Sets.{setFrom}
 use Rattle.sets.proofs.Lists.{onlyIf-some}
 use Rattle.games.specs.Arena.{Arena}
-use Rattle.games.specs.Walks.{Walk, Search, Yes, No, unbeaten, plus, orElse, seek, try, lacking, ifNone, ifSome, mark, tally, tooFew, present, tries, desk, plan, static, oneShot, dynamic, advice}
+use Rattle.games.specs.Walks.{Walk, Search, No, unbeaten, plus, orElse, seek, try, ifSome, mark, tally, tooFew, present, tries, desk, dynamic, advice}
 use Rattle.games.proofs.Searches.{seek-none}
 
 abbrev pub sum : {A : Type 0} → (A → ℕ) → List A → ℕ
@@ -74,23 +74,6 @@ tally-trials {B} f (u ∷ us) (suc w) h = go (f u .got) h (λ v. tally-trials f 
     go none l r = ap (λ (n : ℕ). f u .trials + n) (r (suc w) l)
 
 module _ (G : Arena) where
-  -- a yes of the one-shot walk has tried the pass and every strike, the empty one among them
-  pub oneShot-trials : (t k : ℕ) (p : G .Pos) → Yes (oneShot G t (suc k) p)
-      → oneShot G t (suc k) p .trials ≡ desk G (λ q. unbeaten (oneShot G t k q)) 0 p .trials + sum (λ A. plan G A (suc k) p .trials) (sets (G .people) t 0)
-  unfolding oneShot static ifNone orElse plus
-  oneShot-trials t k p e = go (lacking {C = ℕ} 0 (pass .got)) e
-    where
-      pass : Search (Unit {0})
-      pass = desk G (λ q. unbeaten (oneShot G t k q)) 0 p
-
-      strikes : Search ℕ
-      strikes = seek (λ A. ifNone A (plan G A (suc k) p)) (sets (G .people) t 0)
-
-      go : (o : Option ℕ) → orElse o (pass .trials) (λ _. strikes) .got ≡ none
-          → orElse o (pass .trials) (λ _. strikes) .trials ≡ pass .trials + sum (λ A. plan G A (suc k) p .trials) (sets (G .people) t 0)
-      go none h = ap (λ (n : ℕ). pass .trials + n) (seek-trials (λ A. ifNone A (plan G A (suc k) p)) (sets (G .people) t 0) h)
-      go (some b) h = absurd (Option·some-ne-none b h)
-
   -- a no of the dynamic walk has tried everybody
   pub dynamic-trials : (t k : ℕ) (p : G .Pos) (A : ℕ) → No (dynamic G t (suc k) p) A
       → dynamic G t (suc k) p .trials ≡ sum (λ u. tries G (λ q. unbeaten (dynamic G t k q)) p u .trials) (upto (G .people))

@@ -18,7 +18,7 @@ use Rattle.games.specs.Arena.{Arena, Round}
 use Rattle.games.specs.Walks.{Walk, Search, plus, seek, ifNone, lacking, present, tries, desk, try, plan, static, decremental}
 use Rattle.games.specs.Games.{Absent, Contains, Line, Planned, Static, Decremental}
 use Rattle.games.specs.Good.{Earliest, First}
-use Rattle.games.proofs.Searches.{gets, gets-some, gets-none, gets-lacking, lacking-some, lacking-none, lacked-exactly, Found, seek-found, seek-none, found-in, split-mem, try-some, present-in, present-mem, tries-gets, round-canLeave, desk-wins}
+use Rattle.games.proofs.Searches.{gets, gets-some, gets-none, gets-lacking, lacking-some, lacking-exactly, Found, seek-found, seek-none, found-in, split-mem, try-some, present-in, present-mem, tries-gets, round-canLeave, desk-wins, turn-wins}
 
 -- ---- sets of absentees
 
@@ -47,7 +47,7 @@ module _ {B : Type 0} (f : ℕ → Search B) (n t c : ℕ) where
   beaten-none = (there, back)
     where
       there : beaten .got ≡ none → (A : ℕ) → Absent n t A → Contains n A c → gets (f A .got) ≡ true
-      there e A a w = lacking-none A (f A .got) (seek-none (λ x. ifNone x (f x)) (sets n t c) e A (absent-listed n t c A a w))
+      there e A a w = lacking-exactly A (f A .got) .0 (seek-none (λ x. ifNone x (f x)) (sets n t c) e A (absent-listed n t c A a w))
 
       back : ((A : ℕ) → Absent n t A → Contains n A c → gets (f A .got) ≡ true) → beaten .got ≡ none
       back h = go (beaten .got) refl
@@ -81,7 +81,7 @@ module _ {B : Type 0} (f : ℕ → Search B) (n t c : ℕ) where
         first = λ x l b w.
             let i = lower-before (k .before) (k .rest) (k .at) x (subst Ascending (k .split) (sets-ascending n t c))
             (subst (λ l. x ∈ l) (k .split) (absent-listed n t c x b w)) l in
-            lacking-none x (f x .got) (k .missed x i);
+            lacking-exactly x (f x .got) .0 (k .missed x i);
       })
 
 module _ (G : Arena) where
@@ -200,10 +200,6 @@ module _ (G : Arena) where
   survives : (t k A : ℕ) → G .Pos → Search (Unit {0})
   survives t k A q = ifNone (tt {0}) (decremental G t k A q)
 
-  survives-is : (t k A : ℕ) (q : G .Pos) → (gets (survives t k A q .got) ≡ true) ↔ (decremental G t k A q .got ≡ none)
-  unfolding survives ifNone
-  survives-is t k A q = lacked-exactly (tt {0}) (decremental G t k A q .got)
-
   -- the desk's turn against A
   against : (t k A : ℕ) → G .Pos → Search (Unit {0})
   against t k A p = desk G (survives t k A) A p
@@ -215,12 +211,8 @@ module _ (G : Arena) where
   Exactly t k = (c : ℕ) (p : G .Pos) → (decremental G t k c p .got ≡ none) ↔ Decremental (G .people) (Round G) t k c p
 
   answered : (t k : ℕ) → Exactly t k → (A : ℕ) (p : G .Pos) → (gets (against t k A p .got) ≡ true) ↔ Answered t k A p
-  unfolding against
-  answered t k ih A p =
-      let d = desk-wins G (survives t k A) A p in (
-        λ e. let r = d .0 e in (r .0, r .1, ih A (r .0) .0 (survives-is t k A (r .0) .0 (r .2))),
-        λ r. d .1 (r .0, r .1, survives-is t k A (r .0) .1 (ih A (r .0) .1 (r .2))),
-      )
+  unfolding against survives
+  answered t k ih A p = turn-wins G (decremental G t k A) (Decremental (G .people) (Round G) t k A) (ih A) A p
 
   pub decremental-exactly : (t k c : ℕ) (p : G .Pos) → (decremental G t k c p .got ≡ none) ↔ Decremental (G .people) (Round G) t k c p
   unfolding decremental against survives

@@ -115,8 +115,9 @@ module _ (G : Arena) where
   decremental t (suc k) c p =
       seek (λ A. ifNone A (desk (λ q. unbeaten (decremental t k A q)) A p)) (sets (G .people) t c)
 
-  -- One-shot: a turn of the away side that has not struck tries the pass, after which everybody is present and another such turn follows the desk's; then
-  -- the strikes. Whoever is struck stays away to the end, and the desk's turns follow each other: that is the static walk from here.
+  -- One-shot: a turn of the away side that has not struck tries the pass, then the sets of at most t people in ascending number, and stops at the first
+  -- that beats the desk; for a pass it gets the empty set. After a pass everybody is present, and another such turn follows the desk's. After a strike
+  -- its people stay away to the end, and the desk's turns follow each other: so the strikes are the static walk from here.
   unfoldable pub oneShot : ℕ → ℕ → G .Pos → Search ℕ
   oneShot t zero p = record { got = none; trials = 0 }
   oneShot t (suc k) p =

@@ -108,7 +108,7 @@ pub fn decremental_verdict(case: Case, t: u32, limit: u32) -> VerdictAnswer
     ask(Question::Decremental, case, t, limit)
 }
 
-// Does the desk win where before one of the steps, or never, at most t people go at once and stay away? A no shows the first-round strike, nobody for a
+// Does the desk win where at most once, before one of the steps, at most t people go and stay away? A no shows the first-round strike, nobody for a
 // pass. Refused by 4, 7 to 11 and 12.
 pub fn one_shot_verdict(case: Case, t: u32, limit: u32) -> VerdictAnswer
     ensures { λ r. ⌜ r ≡ oneShotCall case t limit ⌝ }

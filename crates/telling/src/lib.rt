@@ -51,7 +51,7 @@ fn read_file(input: &[u8]) -> FileRead
     }
 }
 
-// The lines for a case, a line for each answer in the order of the questions.
+// The lines for a case: its counts, what is asked, and a line for each answer in the order of the questions.
 fn answer_lines(case: Case, t: u32, limit: u32) -> Text
     ensures { λ r. ⌜ r ≡ put (held []) (answerLines case t limit) ⌝ }
 {

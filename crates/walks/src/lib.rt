@@ -52,7 +52,7 @@ pub enum Advised {
     Person(Person, u32),
 }
 
-// A turn of the desk in the decremental game, with its trials: beaten, or not.
+// A turn of the desk, with its trials: beaten, or not.
 enum Turn {
     Limit,
     Beaten(u32),

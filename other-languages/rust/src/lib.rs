@@ -210,7 +210,7 @@ pub fn static_verdict(file: &[u8], t: u32, limit: u32) -> Answer<Verdict> {
     ended(&raw, verdict)
 }
 
-/// Does the desk win where the absent stay away and are never more than t? A no shows the first-round set.
+/// Does the desk win where before each step the absent may become more, never above t over the whole job? A no shows the first-round set.
 pub fn decremental_verdict(file: &[u8], t: u32, limit: u32) -> Answer<Verdict> {
     let mut raw = ffi::Answer::default();
     // SAFETY: the file is lent for its whole length, and the answer is this function's own.
