@@ -47,7 +47,8 @@ pub const LONG: usize = 288;
 // By exported function, calls that said no, yes, limit, or refused.
 pub const EXPORTED: usize = 304;
 
-// By kind, cases with static yes and one-shot no, with one-shot yes and decremental no, and with decremental yes and dynamic no.
+// By kind, cases with static yes and one-shot no, with one-shot yes and decremental no, with decremental yes and dynamic no, and with a one-shot no that
+// shows somebody.
 const APART: usize = 352;
 
 pub fn count(tally: &mut [usize; TALLY], i: usize) {
@@ -98,7 +99,7 @@ pub fn count_answer(tally: &mut [usize; TALLY], question: usize, ours: Answer) {
     }
 }
 
-// Counts a case in which the games come apart.
+// Counts a case in which the games come apart, or in which one-shot is lost by a strike in the first round.
 pub fn count_apart(tally: &mut [usize; TALLY], five: Five) {
     let at = apart_at(counted(tally, KIND));
     if are_apart(five.fixed, five.struck) {
@@ -110,6 +111,17 @@ pub fn count_apart(tally: &mut [usize; TALLY], five: Five) {
     if are_apart(five.growing, five.changing) {
         count(tally, plus(at, 2));
     }
+    if is_struck(five.struck) {
+        count(tally, plus(at, 3));
+    }
+}
+
+// Does it show somebody, compared to the end of the walk?
+fn is_struck(a: Answer) -> bool {
+    if MOST_TRIALS < a.trials {
+        return false;
+    }
+    a.shown != 0
 }
 
 // Is it yes and then no, both compared to the end of the walk?

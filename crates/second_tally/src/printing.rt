@@ -92,6 +92,11 @@ fn print_apart(tally: &[usize; TALLY], kind: usize) {
             b"  cases with decremental yes, dynamic no",
             plus(at, 2),
         );
+        print_line(
+            tally,
+            b"  cases with one-shot no that show a strike",
+            plus(at, 3),
+        );
     }
 }
 
