@@ -6,11 +6,11 @@ use mathlib.Core.Bool.{true, true≢false}
 use Prim.Native.Nat.{ℕ, zero, suc, _+_}
 use Rattle.games.specs.Arena.{Arena, Round}
 use Rattle.games.specs.Walks.{Search, Yes, ifNone, unbeaten, orElse, plus, seek, lacking, desk, plan, static, oneShot}
-use Rattle.games.specs.Games.{Absent, Planned, OneShot}
+use Rattle.games.specs.Games.{Planned, OneShot}
 use Rattle.games.proofs.Searches.{gets, gets-none, lacking-some, lacking-exactly, neither, either-got, turn-wins}
 use Rattle.sets.specs.Sets.{sets}
 use Rattle.games.proofs.Trials.{sum, seek-trials}
-use Rattle.games.proofs.Verdicts.{nobody, static-exactly, StaticShown, static-shown}
+use Rattle.games.proofs.Verdicts.{static-exactly, StaticShown, static-shown}
 use Rattle.games.proofs.Chain.{oneShot→static, static→planned}
 
 module _ (G : Arena) where

@@ -7,7 +7,7 @@ use Prim.Native.Nat.{ℕ, _+_, _-_, _≤_, _<_}
 use native.Mathlib.Omega.{arith}
 use lib.ListN.{length}
 use Rattle.sets.specs.Lists.{_∈_}
-use Rattle.games.specs.Walks.{Search, plan, static, decremental, oneShot, dynamic, away}
+use Rattle.games.specs.Walks.{plan, dynamic, away}
 use Rattle.games.specs.Limit.{Answer, cut}
 use Rattle.cases.specs.declared.Case.{Case}
 use Rattle.cases.specs.declared.Position.{Position}

@@ -1,5 +1,4 @@
 // The one-shot game. Until the away side strikes, its turn and the desk's call each other; from a strike on the desk is alone, as in the static walk.
-use crate::Line;
 use crate::Try;
 use crate::Turn;
 use crate::Verdict;
@@ -7,7 +6,6 @@ use crate::behind;
 use crate::line_up;
 use crate::next_try;
 use crate::static_walk;
-use cases::Person;
 use cases::Position;
 use sets::People;
 ghost use mathlib.Core.Path.{_≡_};
