@@ -17,7 +17,7 @@ use Rattle.sets.proofs.Bits.{has-empty}
 use Rattle.sets.proofs.Counting.{has-setOf}
 use Rattle.sets.proofs.Members.{members-in}
 use Rattle.games.specs.Arena.{Arena}
-use Rattle.games.specs.Walks.{Walk, Search, plus, seek, try, lacking, having, ifNone, ifSome, unbeaten, present, tries, desk, plan, dynamic, decremental, advice, tally, tooFew}
+use Rattle.games.specs.Walks.{Walk, Search, plus, seek, try, lacking, having, ifNone, ifSome, unbeaten, present, tries, desk, plan, dynamic, advice, tally, tooFew}
 use Rattle.games.proofs.Walks.{seek-cong, tally-cong}
 use Rattle.cases.specs.Chain.{personOf}
 use Rattle.boards.specs.Board.{allowedOn, fitsOn, boardChain}
