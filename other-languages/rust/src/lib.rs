@@ -202,37 +202,33 @@ pub fn plan(file: &[u8], limit: u32) -> Answer<Option<Vec<u8>>> {
     })
 }
 
-/// Is there a plan without any set of at most t people? A no shows the first set without one.
-pub fn static_verdict(file: &[u8], t: u32, limit: u32) -> Answer<Verdict> {
+// A verdict, asked of one of C's functions.
+fn asked(question: unsafe extern "C" fn(*const u8, usize, u32, u32, *mut ffi::Answer), file: &[u8], t: u32, limit: u32) -> Answer<Verdict> {
     let mut raw = ffi::Answer::default();
     // SAFETY: the file is lent for its whole length, and the answer is this function's own.
-    unsafe { ffi::rodcrank_static(file.as_ptr(), file.len(), t, limit, &mut raw) };
+    unsafe { question(file.as_ptr(), file.len(), t, limit, &mut raw) };
     ended(&raw, verdict)
+}
+
+/// Is there a plan without any set of at most t people? A no shows the first set without one.
+pub fn static_verdict(file: &[u8], t: u32, limit: u32) -> Answer<Verdict> {
+    asked(ffi::rodcrank_static, file, t, limit)
 }
 
 /// Does the desk win where before each step the absent may become more, never above t over the whole job? A no shows the first-round set.
 pub fn decremental_verdict(file: &[u8], t: u32, limit: u32) -> Answer<Verdict> {
-    let mut raw = ffi::Answer::default();
-    // SAFETY: the file is lent for its whole length, and the answer is this function's own.
-    unsafe { ffi::rodcrank_decremental(file.as_ptr(), file.len(), t, limit, &mut raw) };
-    ended(&raw, verdict)
+    asked(ffi::rodcrank_decremental, file, t, limit)
 }
 
 /// Does the desk win where at most once, before one of the steps, at most t people go and stay away? A no shows the first-round strike, nobody for a
 /// pass.
 pub fn one_shot_verdict(file: &[u8], t: u32, limit: u32) -> Answer<Verdict> {
-    let mut raw = ffi::Answer::default();
-    // SAFETY: the file is lent for its whole length, and the answer is this function's own.
-    unsafe { ffi::rodcrank_one_shot(file.as_ptr(), file.len(), t, limit, &mut raw) };
-    ended(&raw, verdict)
+    asked(ffi::rodcrank_one_shot, file, t, limit)
 }
 
 /// Does the desk win where any set of at most t people is away in each round? A no shows the good people at the start.
 pub fn dynamic_verdict(file: &[u8], t: u32, limit: u32) -> Answer<Verdict> {
-    let mut raw = ffi::Answer::default();
-    // SAFETY: the file is lent for its whole length, and the answer is this function's own.
-    unsafe { ffi::rodcrank_dynamic(file.as_ptr(), file.len(), t, limit, &mut raw) };
-    ended(&raw, verdict)
+    asked(ffi::rodcrank_dynamic, file, t, limit)
 }
 
 /// The next step, and the lowest present person whose placing there leaves a good position; none where nobody's does.
