@@ -17,19 +17,10 @@
 //     dodge LIMIT T N                away played against N desks, the first N lists of persons
 //
 // Every other line is a remark.
-mod lines;
-mod making;
 mod playing;
 mod saying;
 
 use cases::Case;
-use lines::Line;
-use lines::find;
-use lines::read_line;
-use lines::starts;
-use making::Part;
-use making::filled;
-use making::with_counts;
 use planner::advice;
 use planner::away;
 use planner::decremental_verdict;
@@ -37,6 +28,13 @@ use planner::dynamic_verdict;
 use planner::one_shot_verdict;
 use planner::plan;
 use planner::static_verdict;
+use planner_lines::Line;
+use planner_lines::Part;
+use planner_lines::filled;
+use planner_lines::find;
+use planner_lines::read_line;
+use planner_lines::starts;
+use planner_lines::with_counts;
 use playing::dodge;
 use playing::follow;
 use saying::say;

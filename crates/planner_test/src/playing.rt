@@ -1,5 +1,4 @@
 // Whole games, played with advice and with away.
-use crate::lines::Line;
 use crate::saying::say;
 use crate::saying::say_advice;
 use crate::saying::spaced;
@@ -10,6 +9,7 @@ use planner::AdviceAnswer;
 use planner::AwayAnswer;
 use planner::advice;
 use planner::away;
+use planner_lines::Line;
 use sets::People;
 
 // Asks for advice at the start and follows it, for as long as it names somebody and the line names a set.

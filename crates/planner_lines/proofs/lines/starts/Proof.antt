@@ -2,8 +2,8 @@ use Prim.Native.Nat.{_-_}
 use lib.ListN.{length}
 use native.Mathlib.Omega.{arith}
 use borrow.Author.Needs.{needs}
-use Rattle.planner_test.proofs.lines.starts.Statement.{statement}
-use Rattle.planner_test.proofs.lines.starts.Tie as tie
+use Rattle.planner_lines.proofs.lines.starts.Statement.{statement}
+use Rattle.planner_lines.proofs.lines.starts.Tie as tie
 
 abbrev Inv-loop : tie.InvT-loop
 Inv-loop text word i₀ i = Unit {0}

@@ -1,8 +1,8 @@
 use Prim.Native.Nat.{_-_, _≤_}
 use native.Mathlib.Omega.{arith}
 use borrow.Author.Needs.{needs}
-use Rattle.planner_test.proofs.lines.Line.position.Statement.{statement}
-use Rattle.planner_test.proofs.lines.Line.position.Tie as tie
+use Rattle.planner_lines.proofs.lines.Line.position.Statement.{statement}
+use Rattle.planner_lines.proofs.lines.Line.position.Tie as tie
 
 abbrev Inv-loop : tie.InvT-loop
 Inv-loop self i p₀ k₀ p k = k ≤ 8

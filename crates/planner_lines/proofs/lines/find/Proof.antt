@@ -1,8 +1,8 @@
 use Prim.Native.Nat.{_-_, _≤_}
 use lib.ListN.{length}
 use native.Mathlib.Omega.{arith}
-use Rattle.planner_test.proofs.lines.find.Statement.{statement}
-use Rattle.planner_test.proofs.lines.find.Tie as tie
+use Rattle.planner_lines.proofs.lines.find.Statement.{statement}
+use Rattle.planner_lines.proofs.lines.find.Tie as tie
 
 abbrev Inv-loop : tie.InvT-loop
 Inv-loop s from mark i₀ i = (from ≤ i) × (i ≤ length s)

@@ -2,8 +2,8 @@ use Prim.Native.Nat.{_-_}
 use lib.ListN.{length}
 use native.Mathlib.Omega.{arith}
 use borrow.Author.Needs.{needs}
-use Rattle.planner_test.proofs.lines.read_line.Statement.{statement}
-use Rattle.planner_test.proofs.lines.read_line.Tie as tie
+use Rattle.planner_lines.proofs.lines.read_line.Statement.{statement}
+use Rattle.planner_lines.proofs.lines.read_line.Tie as tie
 
 abbrev Inv-loop : tie.InvT-loop
 Inv-loop text reading₀ i₀ reading i = Unit {0}

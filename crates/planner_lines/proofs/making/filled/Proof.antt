@@ -1,8 +1,8 @@
 use Prim.Native.Nat.{_-_}
 use native.Mathlib.Omega.{arith}
 use borrow.Author.Needs.{needs}
-use Rattle.planner_test.proofs.making.filled.Statement.{statement}
-use Rattle.planner_test.proofs.making.filled.Tie as tie
+use Rattle.planner_lines.proofs.making.filled.Statement.{statement}
+use Rattle.planner_lines.proofs.making.filled.Tie as tie
 
 abbrev Inv-loop : tie.InvT-loop
 Inv-loop part line next₀ i₀ next i = Unit {0}
