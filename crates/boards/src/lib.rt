@@ -11,9 +11,11 @@ use sets::lowest_in;
 use sets::without;
 ghost use mathlib.Core.Path.{_≡_};
 ghost use lib.ListN.{getD};
-ghost use Rattle.sets.specs.Sets.{setOf};
+ghost use Rattle.sets.specs.Lists.{all, any};
+ghost use Rattle.sets.specs.Sets.{has, setOf};
 ghost use Rattle.sets.specs.Stored.{width, number};
 ghost use Rattle.cases.specs.Positions.{persons};
+ghost use Rattle.cases.specs.Rules.{stepsIn};
 ghost use Rattle.boards.specs.Board.{unpacked, allowedOn, dueOn, ruleOn, pairOn, keptOn, fitsOn};
 
 // How many relations there are: "same person", "different person" and the tables.
@@ -59,22 +61,54 @@ pub fn fits(board: &[u32; PLACES], p: Position) -> People
     kept
 }
 
-// The people with whom, placed next after p, a rule is kept: the pair with every step of X for forms 1 and 3, with some step of X for form 2.
+// The test of a single rule: the people with whom, placed next after p, it is kept. One case for each form; s is the rule's step, X its set of steps.
 fn keepers(board: &[u32; PLACES], p: Position, rule: Rule) -> People
     ensures { λ r. ⌜ number r ≡ setOf (keptOn (now (board .entry)) (persons p) rule) width ⌝ }
 {
+    let form = rule.form;
+    match form {
+        // Form 1: the person of s is related to the person of the one step of X.
+        // The campfire, "different person", s = 1, X = {0}: with person 1 in step 0, person 2 keeps it in step 1 and person 1 does not.
+        1 => with_every(board, p, rule),
+        // Form 2: the person of s is related to the person of some step of X; one of them is enough.
+        // Table {(0,1)}, s = 2, X = {0,1}: the position 1 2 0 keeps it by (0,1); 0 0 1 breaks it, since (1,0) is not in the table.
+        2 => with_some(board, p, rule),
+        // Form 3, the last one: the person of s is related to the person of every step of X.
+        // Table {(0,1)}, s = 2, X = {0,1}: the position 1 1 0 keeps it by (0,1) twice; 1 2 0 breaks it, since (0,2) is not in the table.
+        _ => with_every(board, p, rule),
+    }
+}
+
+// The people with whom, placed next after p, the person of s is related to the person of every step of X.
+fn with_every(board: &[u32; PLACES], p: Position, rule: Rule) -> People
+    ensures { λ r. ⌜ number r ≡ setOf (λ u. all (λ x. has (pairOn (now (board .entry)) (persons p) (rule .relation) (rule .step .0) x) u) (stepsIn (rule .group))) width ⌝ }
+{
     let mut every = everybody_if(true);
-    let mut some = everybody_if(false);
     let mut left = rule.group as u32;
     let mut x = lowest_in(left);
     while x < 32 {
         let here = pair(board, p, rule, Step(x));
         every = every.common(here);
+        left = without(left, x);
+        x = lowest_in(left);
+    }
+    every
+}
+
+// The people with whom, placed next after p, the person of s is related to the person of some step of X.
+fn with_some(board: &[u32; PLACES], p: Position, rule: Rule) -> People
+    ensures { λ r. ⌜ number r ≡ setOf (λ u. any (λ x. has (pairOn (now (board .entry)) (persons p) (rule .relation) (rule .step .0) x) u) (stepsIn (rule .group))) width ⌝ }
+{
+    let mut some = everybody_if(false);
+    let mut left = rule.group as u32;
+    let mut x = lowest_in(left);
+    while x < 32 {
+        let here = pair(board, p, rule, Step(x));
         some = some.joined(here);
         left = without(left, x);
         x = lowest_in(left);
     }
-    if rule.form == 2 { some } else { every }
+    some
 }
 
 // The people with whom, placed next after p, the pair (person of s, person of x) is in the rule's relation: s and x may be the next step, or be

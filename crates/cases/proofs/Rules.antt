@@ -4,7 +4,7 @@ use mathlib.Core.Bool.{Bool, true, false, not, _&&_, _||_}
 use mathlib.Core.List.{List, [], _∷_, _++_}
 use Prim.Native.Nat.{ℕ, zero, suc, _+_, _≤_, _<_}
 use native.Mathlib.Omega.{arith}
-use borrow.Author.Tests.{ltb-true, lt-ltb}
+use borrow.Author.Tests.{eqb-true, ne-eqb, ltb-true, lt-ltb}
 use lib.Dec.{eqb, ltb, leb·suc-zero}
 use lib.ListN.{length, getD, length-append, List·getD-append}
 use Rattle.sets.specs.Lists.{pick, _∈_, all, any}
@@ -14,6 +14,21 @@ use Rattle.cases.specs.declared.Case.{Case}
 use Rattle.cases.specs.Case.{rules}
 use Rattle.cases.specs.Rules.{related, stepsIn, needed, filled, kept, rulesHold}
 use Rattle.cases.specs.Plans.{holds}
+
+-- The three cases of the rule test say what it said in one expression: some member of X for form 2, every member for any other.
+pub needed-as-one : (form : ℕ) (test : ℕ → Bool) (xs : List ℕ) → needed form test xs ≡ pick (eqb form 2) (any test xs) (all test xs)
+unfolding needed
+needed-as-one form test xs = go (eqb form 1) refl
+  where
+    go : (one : Bool) → eqb form 1 ≡ one → pick one (all test xs) (pick (eqb form 2) (any test xs) (all test xs)) ≡ pick (eqb form 2) (any test xs) (all test xs)
+    go true e = rw (ne-eqb form 2 (λ two. omega (arith, eqb-true form 1 e, two)))
+    go false e = refl
+
+pub kept-as-one : (c : Case) (r : Rule) (who : ℕ → ℕ) → kept c r who
+    ≡ pick (eqb (r .form) 2) (any (λ x. related c (r .relation) (who (r .step .0)) (who x)) (stepsIn (r .group)))
+    (all (λ x. related c (r .relation) (who (r .step .0)) (who x)) (stepsIn (r .group)))
+unfolding kept
+kept-as-one c r who = needed-as-one (r .form) _ _
 
 -- what is needed of the members of X goes by what holds of each
 pub needed-cong : (form : ℕ) (f g : ℕ → Bool) (xs : List ℕ) → ((x : ℕ) → x ∈ xs → f x ≡ g x) → needed form f xs ≡ needed form g xs

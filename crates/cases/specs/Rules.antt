@@ -19,17 +19,24 @@ related c (suc (suc k)) u v = has (row c k u) v
 unfoldable pub stepsIn : ℕ → List ℕ
 stepsIn x = members mostSteps x
 
--- Forms 1 and 3 need it for every member of X, form 2 for some member.
+-- What a rule of a form asks of the steps of X: form 1 of its one step, form 2 of some step, form 3 of every step. No good rule has another form.
 unfoldable pub needed : ℕ → (ℕ → Bool) → List ℕ → Bool
-needed form test xs = pick (eqb form 2) (any test xs) (all test xs)
+needed form test xs =
+    pick (eqb form 1) (all test xs)
+    (pick (eqb form 2) (any test xs)
+    (all test xs))
 
 -- a rule's steps, s and X, are filled
 unfoldable pub filled : Rule → (ℕ → Bool) → Bool
 filled r isFilled = isFilled (r .step .0) && all isFilled (stepsIn (r .group))
 
 -- The pair tested is always (person of s, person of a member of X).
+abbrev pub paired : Case → Rule → (ℕ → ℕ) → ℕ → Bool
+paired c r who x = related c (r .relation) (who (r .step .0)) (who x)
+
+-- A rule is kept when the pairs with the steps of X are as its form asks.
 unfoldable pub kept : Case → Rule → (ℕ → ℕ) → Bool
-kept c r who = needed (r .form) (λ x. related c (r .relation) (who (r .step .0)) (who x)) (stepsIn (r .group))
+kept c r who = needed (r .form) (paired c r who) (stepsIn (r .group))
 
 -- every rule, all of whose steps are filled, holds
 unfoldable pub rulesHold : Case → (ℕ → Bool) → (ℕ → ℕ) → Bool
