@@ -19,11 +19,14 @@ related c (suc (suc k)) u v = has (row c k u) v
 unfoldable pub stepsIn : ℕ → List ℕ
 stepsIn x = members mostSteps x
 
--- What a rule of a form asks of the steps of X: form 1 of its one step, form 2 of some step, form 3 of every step. No good rule has another form.
+-- What a rule asks of the steps of X, form by form; no good rule has a form but these three.
 unfoldable pub needed : ℕ → (ℕ → Bool) → List ℕ → Bool
 needed form test xs =
+    -- form 1: the one step of X
     pick (eqb form 1) (all test xs)
+    -- form 2: some step of X, one is enough
     (pick (eqb form 2) (any test xs)
+    -- form 3: every step of X
     (all test xs))
 
 -- a rule's steps, s and X, are filled
