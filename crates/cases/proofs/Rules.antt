@@ -1,4 +1,4 @@
--- The one law of the rules that the games need: what holds with some steps filled holds with fewer of them filled, by the same persons.
+-- The rule test, a sentence for each form. Then the one law of the rules that the games need: what holds with some steps filled holds with fewer of them filled, by the same persons.
 use mathlib.Core.Path.{_≡_, refl, sym, ap, ap₂, _∙_}
 use mathlib.Core.Bool.{Bool, true, false, not, _&&_, _||_}
 use mathlib.Core.List.{List, [], _∷_, _++_}
@@ -8,14 +8,29 @@ use borrow.Author.Tests.{eqb-true, ne-eqb, ltb-true, lt-ltb}
 use lib.Dec.{eqb, ltb, leb·suc-zero}
 use lib.ListN.{length, getD, length-append, List·getD-append}
 use Rattle.sets.specs.Lists.{pick, _∈_, all, any}
-use Rattle.sets.proofs.Lists.{and-true, true-and, all-mem, mem-all, all-cong, any-cong}
+use Rattle.sets.proofs.Lists.{and-true, and-true-end, true-and, all-mem, mem-all, all-cong, any-cong}
 use Rattle.cases.specs.declared.Rule.{Rule}
 use Rattle.cases.specs.declared.Case.{Case}
 use Rattle.cases.specs.Case.{rules}
-use Rattle.cases.specs.Rules.{related, stepsIn, needed, filled, kept, rulesHold}
+use Rattle.cases.specs.Rules.{related, stepsIn, needed, filled, paired, kept, rulesHold}
 use Rattle.cases.specs.Plans.{holds}
 
--- The three cases of the rule test say what it said in one expression: some member of X for form 2, every member for any other.
+-- One sentence for each form. Form 1: the pair with the one step of X is in the relation.
+pub form-one : (c : Case) (r : Rule) (who : ℕ → ℕ) (x : ℕ) → r .form ≡ 1 → stepsIn (r .group) ≡ x ∷ [] → kept c r who ≡ paired c r who x
+unfolding kept needed all
+form-one c r who x e one = rw (e, one, and-true-end (paired c r who x))
+
+-- Form 2: the pair with some step of X is.
+pub form-two : (c : Case) (r : Rule) (who : ℕ → ℕ) → r .form ≡ 2 → kept c r who ≡ any (paired c r who) (stepsIn (r .group))
+unfolding kept needed
+form-two c r who e = rw e
+
+-- Form 3: the pair with every step of X is.
+pub form-three : (c : Case) (r : Rule) (who : ℕ → ℕ) → r .form ≡ 3 → kept c r who ≡ all (paired c r who) (stepsIn (r .group))
+unfolding kept needed
+form-three c r who e = rw e
+
+-- The definition by three cases says what it said in one expression: some member of X for form 2, every member for any other form.
 pub needed-as-one : (form : ℕ) (test : ℕ → Bool) (xs : List ℕ) → needed form test xs ≡ pick (eqb form 2) (any test xs) (all test xs)
 unfolding needed
 needed-as-one form test xs = go (eqb form 1) refl
