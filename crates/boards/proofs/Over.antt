@@ -13,7 +13,7 @@ use Rattle.sets.specs.declared.People.{People}
 use Rattle.sets.proofs.Lists.{and-true-end, or-false-end, all-append, any-append}
 use Rattle.sets.proofs.Counting.{has-setOf, setOf-ext}
 use Rattle.sets.proofs.Members.{lowest-none, lowest-some, lowest-size}
-use Rattle.boards.specs.Over.{Over, Sifted, Narrowed, Widened}
+use Rattle.boards.specs.Over.{Over, Narrowed, Widened}
 
 -- the lowest member, by its value
 is-some : (s x : ℕ) → x ≡ valueOr 32 (lowest 32 s) → x < 32 → lowest 32 s ≡ some x
@@ -79,51 +79,44 @@ module _ (test : ℕ → ℕ → Bool) where
       (λ u l. ap₂ _||_ (has-of one (someOf done) e u l) (h u l ∙ sym (or-false-end (test x u)))
       ∙ sym (any-append (λ i. test i u) done (x ∷ [])))
 
-  -- ---- the loop, whichever of the two it gathers
-
-  module _ (by : (ℕ → Bool) → List ℕ → Bool) where
-    sifted-start : (whole s x : ℕ) (those : People) → s ≡ whole → x ≡ valueOr 32 (lowest 32 s) → number those ≡ setOf (λ u. by (λ i. test i u) []) width
-        → Sifted by test whole s x those
-    sifted-start whole s x those w e q = record { done = []; over = over-start whole s x w e; are = q }
-
-    module _ {whole left x : ℕ} {those : People} (g : Sifted by test whole left x those) where
-      sifted-step : x < 32 → (left′ x′ : ℕ) (those′ : People) → left′ ≡ without 32 left x → x′ ≡ valueOr 32 (lowest 32 left′)
-          → number those′ ≡ setOf (λ u. by (λ i. test i u) (g .done ++ (x ∷ []))) width → Sifted by test whole left′ x′ those′
-      sifted-step l left′ x′ those′ q e a = record { done = g .done ++ (x ∷ []); over = over-step (g .over) l left′ x′ q e; are = a }
-
-      sifted-end : 32 ≤ x → number those ≡ setOf (λ u. by (λ i. test i u) (members 32 whole)) width
-      sifted-end l = g .are ∙ ap (λ (d : List ℕ). setOf (λ u. by (λ i. test i u) d) width) (sym (over-end (g .over) l))
-
   -- ---- every
 
   pub narrowed-start : (whole s x : ℕ) (every : People) → s ≡ whole → x ≡ valueOr 32 (lowest 32 s) → number every ≡ setOf (λ u. true) width
       → Narrowed test whole s x every
   unfolding all
-  narrowed-start = sifted-start all
+  narrowed-start whole s x every w e q = record { done = []; over = over-start whole s x w e; each = q }
 
   module _ {whole left x : ℕ} {every : People} (g : Narrowed test whole left x every) where
     pub narrowed-step : x < 32 → (left′ x′ : ℕ) (here every′ : People) → left′ ≡ without 32 left x → x′ ≡ valueOr 32 (lowest 32 left′)
         → ((u : ℕ) → u < width → has (number here) u ≡ test x u) → number every′ ≡ common width (number every) (number here)
         → Narrowed test whole left′ x′ every′
     narrowed-step l left′ x′ here every′ q e h a =
-        sifted-step all g l left′ x′ every′ q e (every-step (g .done) x (number every) (number here) (number every′) (g .are) h a)
+        record {
+          done = g .done ++ (x ∷ []);
+          over = over-step (g .over) l left′ x′ q e;
+          each = every-step (g .done) x (number every) (number here) (number every′) (g .each) h a;
+        }
 
     pub narrowed-end : 32 ≤ x → number every ≡ setOf (everyOf (members 32 whole)) width
-    narrowed-end = sifted-end all g
+    narrowed-end l = g .each ∙ ap (λ (d : List ℕ). setOf (everyOf d) width) (sym (over-end (g .over) l))
 
   -- ---- some
 
   pub widened-start : (whole s x : ℕ) (one : People) → s ≡ whole → x ≡ valueOr 32 (lowest 32 s) → number one ≡ setOf (λ u. false) width
       → Widened test whole s x one
   unfolding any
-  widened-start = sifted-start any
+  widened-start whole s x one w e q = record { done = []; over = over-start whole s x w e; one = q }
 
   module _ {whole left x : ℕ} {one : People} (g : Widened test whole left x one) where
     pub widened-step : x < 32 → (left′ x′ : ℕ) (here one′ : People) → left′ ≡ without 32 left x → x′ ≡ valueOr 32 (lowest 32 left′)
         → ((u : ℕ) → u < width → has (number here) u ≡ test x u) → number one′ ≡ joined width (number one) (number here)
         → Widened test whole left′ x′ one′
     widened-step l left′ x′ here one′ q e h a =
-        sifted-step any g l left′ x′ one′ q e (some-step (g .done) x (number one) (number here) (number one′) (g .are) h a)
+        record {
+          done = g .done ++ (x ∷ []);
+          over = over-step (g .over) l left′ x′ q e;
+          one = some-step (g .done) x (number one) (number here) (number one′) (g .one) h a;
+        }
 
     pub widened-end : 32 ≤ x → number one ≡ setOf (someOf (members 32 whole)) width
-    widened-end = sifted-end any g
+    widened-end l = g .one ∙ ap (λ (d : List ℕ). setOf (someOf d) width) (sym (over-end (g .over) l))

@@ -13,16 +13,14 @@ pub record Over (whole left x : ℕ) (done : List ℕ) : Type 0 where
   pub next : x ≡ valueOr 32 (lowest 32 left)
   pub split : members 32 whole ≡ done ++ members 32 left
 
--- the people who pass the tests of the members done: every test or some test, as `by` says
-pub record Sifted (by : (ℕ → Bool) → List ℕ → Bool) (test : ℕ → ℕ → Bool) (whole left x : ℕ) (those : People) : Type 0 where
+-- the people who pass the test of every member done
+pub record Narrowed (test : ℕ → ℕ → Bool) (whole left x : ℕ) (every : People) : Type 0 where
   pub done : List ℕ
   pub over : Over whole left x done
-  pub are : number those ≡ setOf (λ u. by (λ i. test i u) done) width
+  pub each : number every ≡ setOf (λ u. all (λ i. test i u) done) width
 
--- those who pass the test of every member done
-abbrev pub Narrowed : (ℕ → ℕ → Bool) → ℕ → ℕ → ℕ → People → Type 0
-Narrowed = Sifted all
-
--- those who pass the test of some member done
-abbrev pub Widened : (ℕ → ℕ → Bool) → ℕ → ℕ → ℕ → People → Type 0
-Widened = Sifted any
+-- the people who pass the test of some member done
+pub record Widened (test : ℕ → ℕ → Bool) (whole left x : ℕ) (some : People) : Type 0 where
+  pub done : List ℕ
+  pub over : Over whole left x done
+  pub one : number some ≡ setOf (λ u. any (λ i. test i u) done) width

@@ -12,11 +12,11 @@ use sets::without;
 ghost use mathlib.Core.Path.{_≡_};
 ghost use lib.ListN.{getD};
 ghost use Rattle.sets.specs.Lists.{all, any};
-ghost use Rattle.sets.specs.Sets.{has, setOf};
+ghost use Rattle.sets.specs.Sets.{setOf};
 ghost use Rattle.sets.specs.Stored.{width, number};
 ghost use Rattle.cases.specs.Positions.{persons};
 ghost use Rattle.cases.specs.Rules.{stepsIn};
-ghost use Rattle.boards.specs.Board.{unpacked, allowedOn, dueOn, ruleOn, pairOn, keptOn, fitsOn};
+ghost use Rattle.boards.specs.Board.{unpacked, allowedOn, dueOn, ruleOn, pairOn, pairedOn, keptOn, fitsOn};
 
 // How many relations there are: "same person", "different person" and the tables.
 pub const RELATIONS: usize = Case::TABLES + 2;
@@ -61,27 +61,28 @@ pub fn fits(board: &[u32; PLACES], p: Position) -> People
     kept
 }
 
-// The test of a single rule: the people with whom, placed next after p, it is kept. One case for each form; s is the rule's step, X its set of steps.
+// The test of a single rule: the people with whom, placed next after p, it is kept. One case for each form. A pair is (person of the rule's step s, person
+// of a member of its set X); the positions in the examples list the persons of steps 0, 1, 2.
 fn keepers(board: &[u32; PLACES], p: Position, rule: Rule) -> People
     ensures { λ r. ⌜ number r ≡ setOf (keptOn (now (board .entry)) (persons p) rule) width ⌝ }
 {
     let form = rule.form;
     match form {
-        // Form 1: the person of s is related to the person of the one step of X.
-        // The campfire, "different person", s = 1, X = {0}: with person 1 in step 0, person 2 keeps it in step 1 and person 1 does not.
+        // Form 1: X has one member, and the pair with it is in the relation.
+        // The campfire, "different person", s = 1, X = {0}: 0 1 keeps it, the pair is (1,0); 1 1 breaks it, the pair is (1,1).
         1 => with_every(board, p, rule),
-        // Form 2: the person of s is related to the person of some step of X; one of them is enough.
-        // Table {(0,1)}, s = 2, X = {0,1}: the position 1 2 0 keeps it by (0,1); 0 0 1 breaks it, since (1,0) is not in the table.
+        // Form 2: the pair with some member of X is in the relation; one is enough.
+        // Table {(0,1)}, s = 2, X = {0,1}: 1 2 0 keeps it by (0,1); 0 0 1 breaks it: both pairs are (1,0), and a pair is not turned round.
         2 => with_some(board, p, rule),
-        // Form 3, the last one: the person of s is related to the person of every step of X.
-        // Table {(0,1)}, s = 2, X = {0,1}: the position 1 1 0 keeps it by (0,1) twice; 1 2 0 breaks it, since (0,2) is not in the table.
+        // Form 3, the only other one that a good case has: the pair with every member of X is in the relation.
+        // The same table, s and X: 1 1 0 keeps it, both pairs are (0,1); 1 2 0 breaks it, since (0,2) is not in the table.
         _ => with_every(board, p, rule),
     }
 }
 
-// The people with whom, placed next after p, the person of s is related to the person of every step of X.
+// The people with whom, placed next after p, the pair with every member of X is in the rule's relation.
 fn with_every(board: &[u32; PLACES], p: Position, rule: Rule) -> People
-    ensures { λ r. ⌜ number r ≡ setOf (λ u. all (λ x. has (pairOn (now (board .entry)) (persons p) (rule .relation) (rule .step .0) x) u) (stepsIn (rule .group))) width ⌝ }
+    ensures { λ r. ⌜ number r ≡ setOf (λ u. all (pairedOn (now (board .entry)) (persons p) rule u) (stepsIn (rule .group))) width ⌝ }
 {
     let mut every = everybody_if(true);
     let mut left = rule.group as u32;
@@ -95,9 +96,9 @@ fn with_every(board: &[u32; PLACES], p: Position, rule: Rule) -> People
     every
 }
 
-// The people with whom, placed next after p, the person of s is related to the person of some step of X.
+// The people with whom, placed next after p, the pair with some member of X is in the rule's relation.
 fn with_some(board: &[u32; PLACES], p: Position, rule: Rule) -> People
-    ensures { λ r. ⌜ number r ≡ setOf (λ u. any (λ x. has (pairOn (now (board .entry)) (persons p) (rule .relation) (rule .step .0) x) u) (stepsIn (rule .group))) width ⌝ }
+    ensures { λ r. ⌜ number r ≡ setOf (λ u. any (pairedOn (now (board .entry)) (persons p) rule u) (stepsIn (rule .group))) width ⌝ }
 {
     let mut some = everybody_if(false);
     let mut left = rule.group as u32;

@@ -1,36 +1,49 @@
--- The rule test, a sentence for each form. Then the one law of the rules that the games need: what holds with some steps filled holds with fewer of them filled, by the same persons.
-use mathlib.Core.Path.{_≡_, refl, sym, ap, ap₂, _∙_}
+-- The rule test, form by form. Then the one law of the rules that the games need: what holds with some steps filled holds with fewer of them filled,
+-- by the same persons.
+use mathlib.Core.Path.{_≡_, refl, sym, ap, _∙_}
+use mathlib.Core.Logic.{_⊎_, inl, inr}
 use mathlib.Core.Bool.{Bool, true, false, not, _&&_, _||_}
 use mathlib.Core.List.{List, [], _∷_, _++_}
-use Prim.Native.Nat.{ℕ, zero, suc, _+_, _≤_, _<_}
+use Prim.Native.Nat.{ℕ}
 use native.Mathlib.Omega.{arith}
 use borrow.Author.Tests.{eqb-true, ne-eqb, ltb-true, lt-ltb}
 use lib.Dec.{eqb, ltb, leb·suc-zero}
 use lib.ListN.{length, getD, length-append, List·getD-append}
 use Rattle.sets.specs.Lists.{pick, _∈_, all, any}
+use Rattle.sets.specs.Sets.{size, members}
 use Rattle.sets.proofs.Lists.{and-true, and-true-end, true-and, all-mem, mem-all, all-cong, any-cong}
+use Rattle.sets.proofs.Members.{members-length}
 use Rattle.cases.specs.declared.Rule.{Rule}
 use Rattle.cases.specs.declared.Case.{Case}
-use Rattle.cases.specs.Case.{rules}
+use Rattle.cases.specs.Case.{mostSteps, rules}
 use Rattle.cases.specs.Rules.{related, stepsIn, needed, filled, paired, kept, rulesHold}
 use Rattle.cases.specs.Plans.{holds}
 
--- One sentence for each form. Form 1: the pair with the one step of X is in the relation.
-pub form-one : (c : Case) (r : Rule) (who : ℕ → ℕ) (x : ℕ) → r .form ≡ 1 → stepsIn (r .group) ≡ x ∷ [] → kept c r who ≡ paired c r who x
-unfolding kept needed all
-form-one c r who x e one = rw (e, one, and-true-end (paired c r who x))
+-- a list of length 1 has no member but the one
+only-one : (xs : List ℕ) (x : ℕ) → length xs ≡ 1 → x ∈ xs → xs ≡ x ∷ []
+only-one [] x l m = absurd m
+only-one (y ∷ []) x l (inl e) = ap (λ (z : ℕ). z ∷ []) (sym e)
+only-one (y ∷ []) x l (inr m) = absurd m
+only-one (y ∷ z ∷ ys) x l m = let w : ⊥ = omega (arith, l) in absurd w
 
--- Form 2: the pair with some step of X is.
+-- Form 1: X has one member, and the rule is kept exactly if the pair with it is in the relation.
+pub form-one : (c : Case) (r : Rule) (who : ℕ → ℕ) (x : ℕ) → r .form ≡ 1 → size mostSteps (r .group) ≡ 1 → x ∈ stepsIn (r .group)
+    → kept c r who ≡ paired c r who x
+unfolding kept needed stepsIn all
+form-one c r who x e one m =
+    rw (e, only-one (members mostSteps (r .group)) x (members-length mostSteps (r .group) ∙ one) m, and-true-end (paired c r who x))
+
+-- Form 2: exactly if the pair with some member of X is in the relation.
 pub form-two : (c : Case) (r : Rule) (who : ℕ → ℕ) → r .form ≡ 2 → kept c r who ≡ any (paired c r who) (stepsIn (r .group))
 unfolding kept needed
 form-two c r who e = rw e
 
--- Form 3: the pair with every step of X is.
+-- Form 3: exactly if the pair with every member of X is in the relation.
 pub form-three : (c : Case) (r : Rule) (who : ℕ → ℕ) → r .form ≡ 3 → kept c r who ≡ all (paired c r who) (stepsIn (r .group))
 unfolding kept needed
 form-three c r who e = rw e
 
--- The definition by three cases says what it said in one expression: some member of X for form 2, every member for any other form.
+-- In one expression: form 2 needs it for some member of X, every other form for every member.
 pub needed-as-one : (form : ℕ) (test : ℕ → Bool) (xs : List ℕ) → needed form test xs ≡ pick (eqb form 2) (any test xs) (all test xs)
 unfolding needed
 needed-as-one form test xs = go (eqb form 1) refl
@@ -39,6 +52,7 @@ needed-as-one form test xs = go (eqb form 1) refl
     go true e = rw (ne-eqb form 2 (λ two. omega (arith, eqb-true form 1 e, two)))
     go false e = refl
 
+-- and so for a rule, the pair spelled out
 pub kept-as-one : (c : Case) (r : Rule) (who : ℕ → ℕ) → kept c r who
     ≡ pick (eqb (r .form) 2) (any (λ x. related c (r .relation) (who (r .step .0)) (who x)) (stepsIn (r .group)))
     (all (λ x. related c (r .relation) (who (r .step .0)) (who x)) (stepsIn (r .group)))

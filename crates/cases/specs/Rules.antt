@@ -19,25 +19,22 @@ related c (suc (suc k)) u v = has (row c k u) v
 unfoldable pub stepsIn : ℕ → List ℕ
 stepsIn x = members mostSteps x
 
--- What a rule asks of the steps of X, form by form; no good rule has a form but these three.
+-- Form 1 needs it for the one member of X, form 2 for some member, form 3 for every member.
 unfoldable pub needed : ℕ → (ℕ → Bool) → List ℕ → Bool
 needed form test xs =
-    -- form 1: the one step of X
     pick (eqb form 1) (all test xs)
-    -- form 2: some step of X, one is enough
     (pick (eqb form 2) (any test xs)
-    -- form 3: every step of X
     (all test xs))
 
 -- a rule's steps, s and X, are filled
 unfoldable pub filled : Rule → (ℕ → Bool) → Bool
 filled r isFilled = isFilled (r .step .0) && all isFilled (stepsIn (r .group))
 
--- The pair tested is always (person of s, person of a member of X).
+-- The pair tested is always (person of s, person of a member of X): for member x it is in the relation.
 abbrev pub paired : Case → Rule → (ℕ → ℕ) → ℕ → Bool
 paired c r who x = related c (r .relation) (who (r .step .0)) (who x)
 
--- A rule is kept when the pairs with the steps of X are as its form asks.
+-- A rule is kept when the pair is in the relation for the members of X that its form needs.
 unfoldable pub kept : Case → Rule → (ℕ → ℕ) → Bool
 kept c r who = needed (r .form) (paired c r who) (stepsIn (r .group))
 

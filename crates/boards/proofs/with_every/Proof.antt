@@ -4,14 +4,15 @@ use borrow.Author.Needs.{needs}
 use Rattle.sets.specs.Lists.{all}
 use Rattle.sets.specs.Sets.{size}
 use Rattle.cases.specs.Positions.{persons}
+use Rattle.boards.specs.Board.{pairedOn}
 use Rattle.boards.specs.Over.{Narrowed}
 use Rattle.boards.proofs.Over.{over-less, narrowed-start, narrowed-step, narrowed-end}
-use Rattle.boards.proofs.Pairs.{pairTest, over-steps, pair-here}
+use Rattle.boards.proofs.Pairs.{steps-only, pair-here}
 use Rattle.boards.proofs.with_every.Statement.{statement}
 use Rattle.boards.proofs.with_every.Tie as tie
 
 abbrev Inv-loop : tie.InvT-loop
-Inv-loop board p rule every₀ left₀ x₀ every left x = Narrowed (pairTest board (persons p) rule) (rule .group) left x every
+Inv-loop board p rule every₀ left₀ x₀ every left x = Narrowed (λ x₁ u. pairedOn board (persons p) rule u x₁) (rule .group) left x every
 
 abbrev μ-loop : tie.MeasureT-loop
 μ-loop board p rule every₀ left₀ x₀ every left x = size 32 left
@@ -51,7 +52,7 @@ loop-again c =
     (pair-here _ _ _ _ _ _ (c .before .before .before .pair .ensures)) (c .before .before .common .ensures)
 
 returns : tie.Need-returns Inv-loop μ-loop
-returns c = over-steps all _ _ _ (omega arith) (narrowed-end _ (c .before .loop .inv) (c .loop-test .left))
+returns c = steps-only all _ _ _ (omega arith) (narrowed-end _ (c .before .loop .inv) (c .loop-test .left))
 
 pub with-every-spec : {M : Type 1} → statement M
 with-every-spec =

@@ -4,14 +4,15 @@ use borrow.Author.Needs.{needs}
 use Rattle.sets.specs.Lists.{any}
 use Rattle.sets.specs.Sets.{size}
 use Rattle.cases.specs.Positions.{persons}
+use Rattle.boards.specs.Board.{pairedOn}
 use Rattle.boards.specs.Over.{Widened}
 use Rattle.boards.proofs.Over.{over-less, widened-start, widened-step, widened-end}
-use Rattle.boards.proofs.Pairs.{pairTest, over-steps, pair-here}
+use Rattle.boards.proofs.Pairs.{steps-only, pair-here}
 use Rattle.boards.proofs.with_some.Statement.{statement}
 use Rattle.boards.proofs.with_some.Tie as tie
 
 abbrev Inv-loop : tie.InvT-loop
-Inv-loop board p rule some₀ left₀ x₀ some left x = Widened (pairTest board (persons p) rule) (rule .group) left x some
+Inv-loop board p rule some₀ left₀ x₀ some left x = Widened (λ x₁ u. pairedOn board (persons p) rule u x₁) (rule .group) left x some
 
 abbrev μ-loop : tie.MeasureT-loop
 μ-loop board p rule some₀ left₀ x₀ some left x = size 32 left
@@ -51,7 +52,7 @@ loop-again c =
     (pair-here _ _ _ _ _ _ (c .before .before .before .pair .ensures)) (c .before .before .joined .ensures)
 
 returns : tie.Need-returns Inv-loop μ-loop
-returns c = over-steps any _ _ _ (omega arith) (widened-end _ (c .before .loop .inv) (c .loop-test .left))
+returns c = steps-only any _ _ _ (omega arith) (widened-end _ (c .before .loop .inv) (c .loop-test .left))
 
 pub with-some-spec : {M : Type 1} → statement M
 with-some-spec =
