@@ -1,7 +1,7 @@
 -- The rule test, form by form. Then the one law of the rules that the games need: what holds with some steps filled holds with fewer of them filled,
 -- by the same persons.
 use mathlib.Core.Path.{_≡_, refl, sym, ap, _∙_}
-use mathlib.Core.Logic.{_⊎_, inl, inr}
+use mathlib.Core.Logic.{inl, inr}
 use mathlib.Core.Bool.{Bool, true, false, not, _&&_, _||_}
 use mathlib.Core.List.{List, [], _∷_, _++_}
 use Prim.Native.Nat.{ℕ}
