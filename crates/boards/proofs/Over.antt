@@ -13,7 +13,7 @@ use Rattle.sets.specs.declared.People.{People}
 use Rattle.sets.proofs.Lists.{and-true-end, or-false-end, all-append, any-append}
 use Rattle.sets.proofs.Counting.{has-setOf, setOf-ext}
 use Rattle.sets.proofs.Members.{lowest-none, lowest-some, lowest-size}
-use Rattle.boards.specs.Over.{Over, Narrowed, Widened}
+use Rattle.boards.specs.Over.{Over, Narrowed, Gathered}
 
 -- the lowest member, by its value
 is-some : (s x : ℕ) → x ≡ valueOr 32 (lowest 32 s) → x < 32 → lowest 32 s ≡ some x
@@ -100,23 +100,26 @@ module _ (test : ℕ → ℕ → Bool) where
     pub narrowed-end : 32 ≤ x → number every ≡ setOf (everyOf (members 32 whole)) width
     narrowed-end l = g .each ∙ ap (λ (d : List ℕ). setOf (everyOf d) width) (sym (over-end (g .over) l))
 
-  -- ---- some
+  -- ---- every and some
 
-  pub widened-start : (whole s x : ℕ) (one : People) → s ≡ whole → x ≡ valueOr 32 (lowest 32 s) → number one ≡ setOf (λ u. false) width
-      → Widened test whole s x one
-  unfolding any
-  widened-start whole s x one w e q = record { done = []; over = over-start whole s x w e; one = q }
+  pub gathered-start : (s x : ℕ) (every one : People) → x ≡ valueOr 32 (lowest 32 s) → number every ≡ setOf (λ u. true) width
+      → number one ≡ setOf (λ u. false) width → Gathered test s s x every one
+  unfolding all any
+  gathered-start s x every one e q r = record { done = []; over = over-start s s x refl e; each = q; one = r }
 
-  module _ {whole left x : ℕ} {one : People} (g : Widened test whole left x one) where
-    pub widened-step : x < 32 → (left′ x′ : ℕ) (here one′ : People) → left′ ≡ without 32 left x → x′ ≡ valueOr 32 (lowest 32 left′)
-        → ((u : ℕ) → u < width → has (number here) u ≡ test x u) → number one′ ≡ joined width (number one) (number here)
-        → Widened test whole left′ x′ one′
-    widened-step l left′ x′ here one′ q e h a =
+  module _ {whole left x : ℕ} {every one : People} (g : Gathered test whole left x every one) where
+    pub gathered-step : x < 32 → (left′ x′ : ℕ) (here every′ one′ : People) → left′ ≡ without 32 left x → x′ ≡ valueOr 32 (lowest 32 left′)
+        → ((u : ℕ) → u < width → has (number here) u ≡ test x u) → number every′ ≡ common width (number every) (number here)
+        → number one′ ≡ joined width (number one) (number here) → Gathered test whole left′ x′ every′ one′
+    gathered-step l left′ x′ here every′ one′ q e h a b =
         record {
           done = g .done ++ (x ∷ []);
           over = over-step (g .over) l left′ x′ q e;
-          one = some-step (g .done) x (number one) (number here) (number one′) (g .one) h a;
+          each = every-step (g .done) x (number every) (number here) (number every′) (g .each) h a;
+          one = some-step (g .done) x (number one) (number here) (number one′) (g .one) h b;
         }
 
-    pub widened-end : 32 ≤ x → number one ≡ setOf (someOf (members 32 whole)) width
-    widened-end l = g .one ∙ ap (λ (d : List ℕ). setOf (someOf d) width) (sym (over-end (g .over) l))
+    pub gathered-end : 32 ≤ x → (number every ≡ setOf (everyOf (members 32 whole)) width) × (number one ≡ setOf (someOf (members 32 whole)) width)
+    gathered-end l =
+        let e = sym (over-end (g .over) l) in
+        (g .each ∙ ap (λ (d : List ℕ). setOf (everyOf d) width) e, g .one ∙ ap (λ (d : List ℕ). setOf (someOf d) width) e)

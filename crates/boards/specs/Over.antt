@@ -19,8 +19,9 @@ pub record Narrowed (test : ℕ → ℕ → Bool) (whole left x : ℕ) (every : 
   pub over : Over whole left x done
   pub each : number every ≡ setOf (λ u. all (λ i. test i u) done) width
 
--- the people who pass the test of some member done
-pub record Widened (test : ℕ → ℕ → Bool) (whole left x : ℕ) (some : People) : Type 0 where
+-- and those who pass the test of some member done
+pub record Gathered (test : ℕ → ℕ → Bool) (whole left x : ℕ) (every some : People) : Type 0 where
   pub done : List ℕ
   pub over : Over whole left x done
+  pub each : number every ≡ setOf (λ u. all (λ i. test i u) done) width
   pub one : number some ≡ setOf (λ u. any (λ i. test i u) done) width

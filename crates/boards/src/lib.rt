@@ -38,6 +38,12 @@ pub const RULES: usize = 528;
 
 pub const ALLOWED: usize = 560;
 
+// With whom the pairs of a rule are in its relation: every pair, and some pair.
+struct InRelation {
+    every: People,
+    some: People,
+}
+
 // The people who may do step `at`.
 pub fn allowed(board: &[u32; PLACES], at: u8) -> People
     ensures { λ r. ⌜ number r ≡ allowedOn (now (board .entry)) at ⌝ }
@@ -66,50 +72,41 @@ pub fn fits(board: &[u32; PLACES], p: Position) -> People
 fn keepers(board: &[u32; PLACES], p: Position, rule: Rule) -> People
     ensures { λ r. ⌜ number r ≡ setOf (keptOn (now (board .entry)) (persons p) rule) width ⌝ }
 {
+    let pairs = pairs_of(board, p, rule);
     let form = rule.form;
     match form {
         // Form 1: X has one member, and the pair with it is in the relation.
         // The campfire, "different person", s = 1, X = {0}: 0 1 keeps it, the pair is (1,0); 1 1 breaks it, the pair is (1,1).
-        1 => with_every(board, p, rule),
-        // Form 2: the pair with some member of X is in the relation; one is enough.
+        1 => pairs.every,
+        // Form 2: some pair is in the relation, one is enough.
         // Table {(0,1)}, s = 2, X = {0,1}: 1 2 0 keeps it by (0,1); 0 0 1 breaks it: both pairs are (1,0), and a pair is not turned round.
-        2 => with_some(board, p, rule),
-        // Form 3, the only other one that a good case has: the pair with every member of X is in the relation.
+        2 => pairs.some,
+        // Form 3, the only other one that a good case has: every pair is in the relation.
         // The same table, s and X: 1 1 0 keeps it, both pairs are (0,1); 1 2 0 breaks it, since (0,2) is not in the table.
-        _ => with_every(board, p, rule),
+        _ => pairs.every,
     }
 }
 
-// The people with whom, placed next after p, the pair with every member of X is in the rule's relation.
-fn with_every(board: &[u32; PLACES], p: Position, rule: Rule) -> People
-    ensures { λ r. ⌜ number r ≡ setOf (λ u. all (pairedOn (now (board .entry)) (persons p) rule u) (stepsIn (rule .group))) width ⌝ }
+// The people with whom, placed next after p, every pair of a rule is in its relation, and those with whom some pair is.
+fn pairs_of(board: &[u32; PLACES], p: Position, rule: Rule) -> InRelation
+    ensures { λ r. ⌜ number (r .every) ≡ setOf (λ u. all (pairedOn (now (board .entry)) (persons p) rule u) (stepsIn (rule .group))) width ⌝ }
+    ensures { λ r. ⌜ number (r .some) ≡ setOf (λ u. any (pairedOn (now (board .entry)) (persons p) rule u) (stepsIn (rule .group))) width ⌝ }
 {
     let mut every = everybody_if(true);
-    let mut left = rule.group as u32;
-    let mut x = lowest_in(left);
-    while x < 32 {
-        let here = pair(board, p, rule, Step(x));
-        every = every.common(here);
-        left = without(left, x);
-        x = lowest_in(left);
-    }
-    every
-}
-
-// The people with whom, placed next after p, the pair with some member of X is in the rule's relation.
-fn with_some(board: &[u32; PLACES], p: Position, rule: Rule) -> People
-    ensures { λ r. ⌜ number r ≡ setOf (λ u. any (pairedOn (now (board .entry)) (persons p) rule u) (stepsIn (rule .group))) width ⌝ }
-{
     let mut some = everybody_if(false);
     let mut left = rule.group as u32;
     let mut x = lowest_in(left);
     while x < 32 {
         let here = pair(board, p, rule, Step(x));
+        every = every.common(here);
         some = some.joined(here);
         left = without(left, x);
         x = lowest_in(left);
     }
-    some
+    InRelation {
+        every: every,
+        some: some,
+    }
 }
 
 // The people with whom, placed next after p, the pair (person of s, person of x) is in the rule's relation: s and x may be the next step, or be

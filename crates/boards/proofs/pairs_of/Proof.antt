@@ -1,0 +1,85 @@
+use native.Mathlib.Omega.{arith}
+use borrow.Author.Needs.{needs}
+use Rattle.sets.specs.Lists.{all, any}
+use Rattle.sets.specs.Sets.{size}
+use Rattle.cases.specs.Positions.{persons}
+use Rattle.boards.specs.Board.{pairedOn}
+use Rattle.boards.specs.Over.{Gathered}
+use Rattle.boards.proofs.Over.{over-less, gathered-start, gathered-step, gathered-end}
+use Rattle.boards.proofs.Pairs.{steps-only, pair-here}
+use Rattle.boards.proofs.pairs_of.Statement.{statement}
+use Rattle.boards.proofs.pairs_of.Tie as tie
+
+abbrev Inv-loop : tie.InvT-loop
+Inv-loop board p rule every₀ some₀ left₀ x₀ every some left x = Gathered (λ y u. pairedOn board (persons p) rule u y) (rule .group) left x every some
+
+abbrev μ-loop : tie.MeasureT-loop
+μ-loop board p rule every₀ some₀ left₀ x₀ every some left x = size 32 left
+
+everybody-if-requires : tie.Need-everybody-if-requires Inv-loop μ-loop
+everybody-if-requires c κs = search needs
+
+everybody-if-requires-2 : tie.Need-everybody-if-requires-2 Inv-loop μ-loop
+everybody-if-requires-2 c κs = search needs
+
+cast-left : tie.Need-cast-left Inv-loop μ-loop
+cast-left c = search needs
+
+lowest-in-requires : tie.Need-lowest-in-requires Inv-loop μ-loop
+lowest-in-requires c κs = search needs
+
+loop-holds : tie.Need-loop-holds Inv-loop μ-loop
+loop-holds c = gathered-start _ _ _ (c .before .before .before .everybody-if .result) (c .before .before .everybody-if2 .result)
+    (c .lowest-in .ensures) (c .before .before .before .everybody-if .ensures) (c .before .before .everybody-if2 .ensures)
+
+pair-requires : tie.Need-pair-requires Inv-loop μ-loop
+pair-requires c κs = search needs
+
+common-requires : tie.Need-common-requires Inv-loop μ-loop
+common-requires c κs = search needs
+
+joined-requires : tie.Need-joined-requires Inv-loop μ-loop
+joined-requires c κs = search needs
+
+without-requires : tie.Need-without-requires Inv-loop μ-loop
+without-requires c κs = search needs
+
+lowest-in-requires-2 : tie.Need-lowest-in-requires-2 Inv-loop μ-loop
+lowest-in-requires-2 c κs = search needs
+
+loop-less : tie.Need-loop-less Inv-loop μ-loop
+loop-less c = over-less (c .before .before .before .before .before .before .loop .inv .over)
+    (c .before .before .before .before .before .loop-test .taken) _ (c .before .without .ensures)
+
+loop-again : tie.Need-loop-again Inv-loop μ-loop
+loop-again c =
+    let at = c .before .before .before .before .before .before .loop in
+    gathered-step _ (at .inv) (c .before .before .before .before .before .loop-test .taken) _ _ (c .before .before .before .before .pair .result)
+    (c .before .before .before .common .result) (c .before .before .joined .result) (c .before .without .ensures) (c .lowest-in2 .ensures)
+    (pair-here _ _ _ _ _ _ (c .before .before .before .before .pair .ensures)) (c .before .before .before .common .ensures)
+    (c .before .before .joined .ensures)
+
+returns : tie.Need-returns Inv-loop μ-loop
+returns c =
+    let both = gathered-end _ (c .before .loop .inv) (c .loop-test .left) in
+    (steps-only all _ _ _ (omega arith) (both .0), steps-only any _ _ _ (omega arith) (both .1))
+
+pub pairs-of-spec : {M : Type 1} → statement M
+pairs-of-spec =
+    tie.close
+    (tie.spec
+    Inv-loop
+    μ-loop
+    everybody-if-requires
+    everybody-if-requires-2
+    cast-left
+    lowest-in-requires
+    loop-holds
+    pair-requires
+    common-requires
+    joined-requires
+    without-requires
+    lowest-in-requires-2
+    loop-less
+    loop-again
+    returns)
