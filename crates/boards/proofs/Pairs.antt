@@ -59,7 +59,7 @@ steps-wide g h =
     ∙ ap (λ (l : List ℕ). keep (has g) (from 0 8) ++ l) (keep-nothing (has g) (from 8 24) (λ x m. has-beyond 8 g x h (from-lo 8 24 x m)))
     ∙ append-nil (keep (has g) (from 0 8))
 
--- a loop over 32 numbers goes over the steps of a set, since it has no member past them
+-- over the members below 32 or over the steps it is the same, since a set of steps has no member past the steps
 pub steps-only : (by : (ℕ → Bool) → List ℕ → Bool) (test : ℕ → ℕ → Bool) (g s : ℕ) → g < 256
     → s ≡ setOf (λ u. by (test u) (members 32 g)) width → s ≡ setOf (λ u. by (test u) (stepsIn g)) width
 steps-only by test g s small q = q ∙ ap (λ (xs : List ℕ). setOf (λ u. by (test u) xs) width) (steps-wide g small)

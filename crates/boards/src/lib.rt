@@ -38,7 +38,7 @@ pub const RULES: usize = 528;
 
 pub const ALLOWED: usize = 560;
 
-// With whom the pairs of a rule are in its relation: every pair, and some pair.
+// Two sets of people, for one rule: those with whom every pair is in its relation, and those with whom some pair is.
 struct InRelation {
     every: People,
     some: People,
@@ -68,20 +68,20 @@ pub fn fits(board: &[u32; PLACES], p: Position) -> People
 }
 
 // The test of a single rule: the people with whom, placed next after p, it is kept. One case for each form. A pair is (person of the rule's step s, person
-// of a member of its set X); the positions in the examples list the persons of steps 0, 1, 2.
+// of a member of its set X). In the examples a position lists the persons of step 0, step 1 and so on, the last of them placed next.
 fn keepers(board: &[u32; PLACES], p: Position, rule: Rule) -> People
     ensures { λ r. ⌜ number r ≡ setOf (keptOn (now (board .entry)) (persons p) rule) width ⌝ }
 {
     let pairs = pairs_of(board, p, rule);
     let form = rule.form;
     match form {
-        // Form 1: X has one member, and the pair with it is in the relation.
+        // Form 1: X has one member, so every pair is the pair with it, and that is in the relation.
         // The campfire, "different person", s = 1, X = {0}: 0 1 keeps it, the pair is (1,0); 1 1 breaks it, the pair is (1,1).
         1 => pairs.every,
         // Form 2: some pair is in the relation, one is enough.
         // Table {(0,1)}, s = 2, X = {0,1}: 1 2 0 keeps it by (0,1); 0 0 1 breaks it: both pairs are (1,0), and a pair is not turned round.
         2 => pairs.some,
-        // Form 3, the only other one that a good case has: every pair is in the relation.
+        // Form 3, the only other form in a good case: every pair is in the relation.
         // The same table, s and X: 1 1 0 keeps it, both pairs are (0,1); 1 2 0 breaks it, since (0,2) is not in the table.
         _ => pairs.every,
     }

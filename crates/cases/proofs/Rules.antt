@@ -19,7 +19,7 @@ use Rattle.cases.specs.Case.{mostSteps, rules}
 use Rattle.cases.specs.Rules.{related, stepsIn, needed, filled, paired, kept, rulesHold}
 use Rattle.cases.specs.Plans.{holds}
 
--- a list of length 1 has no member but the one
+-- a list of length 1 that has x is x alone
 only-one : (xs : List ℕ) (x : ℕ) → length xs ≡ 1 → x ∈ xs → xs ≡ x ∷ []
 only-one [] x l m = absurd m
 only-one (y ∷ []) x l (inl e) = ap (λ (z : ℕ). z ∷ []) (sym e)

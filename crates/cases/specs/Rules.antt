@@ -19,7 +19,7 @@ related c (suc (suc k)) u v = has (row c k u) v
 unfoldable pub stepsIn : ℕ → List ℕ
 stepsIn x = members mostSteps x
 
--- Form 1 needs it for the one member of X, form 2 for some member, form 3 for every member.
+-- Form 1, whose X has one member, needs it for every member of X, form 2 for some member, form 3 for every member.
 unfoldable pub needed : ℕ → (ℕ → Bool) → List ℕ → Bool
 needed form test xs =
     pick (eqb form 1) (all test xs)
@@ -30,11 +30,11 @@ needed form test xs =
 unfoldable pub filled : Rule → (ℕ → Bool) → Bool
 filled r isFilled = isFilled (r .step .0) && all isFilled (stepsIn (r .group))
 
--- The pair tested is always (person of s, person of a member of X): for member x it is in the relation.
+-- with member x of X the pair is in the relation; the pair tested is always (person of s, person of a member of X)
 abbrev pub paired : Case → Rule → (ℕ → ℕ) → ℕ → Bool
 paired c r who x = related c (r .relation) (who (r .step .0)) (who x)
 
--- A rule is kept when the pair is in the relation for the members of X that its form needs.
+-- A rule is kept when the pair is in the relation for as many members of X as its form needs.
 unfoldable pub kept : Case → Rule → (ℕ → ℕ) → Bool
 kept c r who = needed (r .form) (paired c r who) (stepsIn (r .group))
 
