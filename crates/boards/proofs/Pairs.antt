@@ -19,7 +19,7 @@ use Rattle.cases.specs.Positions.{persons}
 use Rattle.cases.specs.Rules.{stepsIn}
 use Rattle.cases.proofs.Positions.{persons-length}
 use Rattle.cases.proofs.Rules.{needed-as-one}
-use Rattle.boards.specs.Board.{rowPlace, columnPlace, loopsPlace, dueOn, ruleOn, pairOn, pairedOn, keptOn, fitsOn}
+use Rattle.boards.specs.Board.{rowPlace, columnPlace, loopsPlace, dueOn, ruleOn, pairOn, keptOn, fitsOn}
 
 module _ (b : List ℕ) (p : Position) (k s x : ℕ) where
   abbrev row : ℕ
@@ -59,23 +59,24 @@ steps-wide g h =
     ∙ ap (λ (l : List ℕ). keep (has g) (from 0 8) ++ l) (keep-nothing (has g) (from 8 24) (λ x m. has-beyond 8 g x h (from-lo 8 24 x m)))
     ∙ append-nil (keep (has g) (from 0 8))
 
--- over the members below 32 or over the steps it is the same, since a set of steps has no member past the steps
-pub steps-only : (by : (ℕ → Bool) → List ℕ → Bool) (test : ℕ → ℕ → Bool) (g s : ℕ) → g < 256
-    → s ≡ setOf (λ u. by (test u) (members 32 g)) width → s ≡ setOf (λ u. by (test u) (stepsIn g)) width
-steps-only by test g s small q = q ∙ ap (λ (xs : List ℕ). setOf (λ u. by (test u) xs) width) (steps-wide g small)
-
 -- form 2 needs some pair, the others every pair
-module _ (b : List ℕ) (p : List ℕ) (r : Rule) where
+abbrev pub pairTest : List ℕ → List ℕ → Rule → ℕ → ℕ → Bool
+pairTest b p r x u = has (pairOn b p (r .relation) (r .step .0) x) u
+
+module _ (b : List ℕ) (p : List ℕ) (r : Rule) (small : r .group < 256) where
+  abbrev test : ℕ → ℕ → Bool
+  test = pairTest b p r
+
   kept-as : (c : Bool) → eqb (r .form) 2 ≡ c
-      → setOf (λ u. pick c (any (pairedOn b p r u) (stepsIn (r .group))) (all (pairedOn b p r u) (stepsIn (r .group)))) width
+      → setOf (λ u. pick c (any (λ x. test x u) (members 32 (r .group))) (all (λ x. test x u) (members 32 (r .group)))) width
       ≡ setOf (keptOn b p r) width
   unfolding keptOn
-  kept-as c e = setOf-ext _ _ width (λ u l. rw (needed-as-one (r .form) (pairedOn b p r u) (stepsIn (r .group)), e))
+  kept-as c e = setOf-ext _ _ width (λ u l. rw (steps-wide (r .group) small, needed-as-one (r .form) (λ x. test x u) (stepsIn (r .group)), e))
 
-  pub kept-some : (s : ℕ) → s ≡ setOf (λ u. any (pairedOn b p r u) (stepsIn (r .group))) width → r .form ≡ 2 → s ≡ setOf (keptOn b p r) width
+  pub kept-some : (s : ℕ) → s ≡ setOf (λ u. any (λ x. test x u) (members 32 (r .group))) width → r .form ≡ 2 → s ≡ setOf (keptOn b p r) width
   kept-some s q e = q ∙ kept-as true (eq-eqb (r .form) 2 e)
 
-  pub kept-every : (s : ℕ) → s ≡ setOf (λ u. all (pairedOn b p r u) (stepsIn (r .group))) width → (r .form ≡ 2 → ⊥) → s ≡ setOf (keptOn b p r) width
+  pub kept-every : (s : ℕ) → s ≡ setOf (λ u. all (λ x. test x u) (members 32 (r .group))) width → (r .form ≡ 2 → ⊥) → s ≡ setOf (keptOn b p r) width
   kept-every s q e = q ∙ kept-as false (ne-eqb (r .form) 2 e)
 
 pub pair-here : (b p : List ℕ) (k s x here : ℕ) → here ≡ pairOn b p k s x → (u : ℕ) → u < width → has here u ≡ has (pairOn b p k s x) u

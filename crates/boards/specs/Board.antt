@@ -67,10 +67,6 @@ module _ (b : List ℕ) where
         (pick (eqb x (length p)) (setAt b (loopsPlace k)) (setAt b (columnPlace k (getD p x 0))))
         (pick (eqb x (length p)) (setAt b (rowPlace k (getD p s 0))) (setOf (λ u. has (setAt b (rowPlace k (getD p s 0))) (getD p x 0)) width))
 
-    -- with person u placed next, the pair (person of the rule's step s, person of x) is in the rule's relation
-    abbrev pub pairedOn : Rule → ℕ → ℕ → Bool
-    pairedOn r u x = has (pairOn (r .relation) (r .step .0) x) u
-
     -- with person u placed next, a rule is kept
     unfoldable pub keptOn : Rule → ℕ → Bool
     keptOn r u = needed (r .form) (λ x. has (pairOn (r .relation) (r .step .0) x) u) (stepsIn (r .group))

@@ -11,12 +11,10 @@ use sets::lowest_in;
 use sets::without;
 ghost use mathlib.Core.Path.{_≡_};
 ghost use lib.ListN.{getD};
-ghost use Rattle.sets.specs.Lists.{all, any};
 ghost use Rattle.sets.specs.Sets.{setOf};
 ghost use Rattle.sets.specs.Stored.{width, number};
 ghost use Rattle.cases.specs.Positions.{persons};
-ghost use Rattle.cases.specs.Rules.{stepsIn};
-ghost use Rattle.boards.specs.Board.{unpacked, allowedOn, dueOn, ruleOn, pairOn, pairedOn, keptOn, fitsOn};
+ghost use Rattle.boards.specs.Board.{unpacked, allowedOn, dueOn, ruleOn, pairOn, keptOn, fitsOn};
 
 // How many relations there are: "same person", "different person" and the tables.
 pub const RELATIONS: usize = Case::TABLES + 2;
@@ -37,12 +35,6 @@ pub const DUE: usize = 520;
 pub const RULES: usize = 528;
 
 pub const ALLOWED: usize = 560;
-
-// Two sets of people, for one rule: those with whom every pair is in its relation, and those with whom some pair is.
-struct InRelation {
-    every: People,
-    some: People,
-}
 
 // The people who may do step `at`.
 pub fn allowed(board: &[u32; PLACES], at: u8) -> People
@@ -67,30 +59,11 @@ pub fn fits(board: &[u32; PLACES], p: Position) -> People
     kept
 }
 
-// The test of a single rule: the people with whom, placed next after p, it is kept. One case for each form. A pair is (person of the rule's step s, person
-// of a member of its set X). In the examples a position lists the persons of step 0, step 1 and so on, the last of them placed next.
+// The test of a single rule: the people with whom, placed next after p, it is kept. A pair is (person of the rule's step s, person of a member of its set X).
+// First the people with whom every pair is in the relation are gathered, and those with whom some pair is; then comes one case for each form. In the examples
+// a position lists the persons of step 0, step 1 and so on, the last of them placed next.
 fn keepers(board: &[u32; PLACES], p: Position, rule: Rule) -> People
     ensures { λ r. ⌜ number r ≡ setOf (keptOn (now (board .entry)) (persons p) rule) width ⌝ }
-{
-    let pairs = pairs_of(board, p, rule);
-    let form = rule.form;
-    match form {
-        // Form 1: X has one member, so every pair is the pair with it, and that is in the relation.
-        // The campfire, "different person", s = 1, X = {0}: 0 1 keeps it, the pair is (1,0); 1 1 breaks it, the pair is (1,1).
-        1 => pairs.every,
-        // Form 2: some pair is in the relation, one is enough.
-        // Table {(0,1)}, s = 2, X = {0,1}: 1 2 0 keeps it by (0,1); 0 0 1 breaks it: both pairs are (1,0), and a pair is not turned round.
-        2 => pairs.some,
-        // Form 3, the only other form in a good case: every pair is in the relation.
-        // The same table, s and X: 1 1 0 keeps it, both pairs are (0,1); 1 2 0 breaks it, since (0,2) is not in the table.
-        _ => pairs.every,
-    }
-}
-
-// The people with whom, placed next after p, every pair of a rule is in its relation, and those with whom some pair is.
-fn pairs_of(board: &[u32; PLACES], p: Position, rule: Rule) -> InRelation
-    ensures { λ r. ⌜ number (r .every) ≡ setOf (λ u. all (pairedOn (now (board .entry)) (persons p) rule u) (stepsIn (rule .group))) width ⌝ }
-    ensures { λ r. ⌜ number (r .some) ≡ setOf (λ u. any (pairedOn (now (board .entry)) (persons p) rule u) (stepsIn (rule .group))) width ⌝ }
 {
     let mut every = everybody_if(true);
     let mut some = everybody_if(false);
@@ -103,9 +76,17 @@ fn pairs_of(board: &[u32; PLACES], p: Position, rule: Rule) -> InRelation
         left = without(left, x);
         x = lowest_in(left);
     }
-    InRelation {
-        every: every,
-        some: some,
+    let form = rule.form;
+    match form {
+        // Form 1: X has one member, so every pair is the pair with it, and that is in the relation.
+        // The campfire, "different person", s = 1, X = {0}: 0 1 keeps it, the pair is (1,0); 1 1 breaks it, the pair is (1,1).
+        1 => every,
+        // Form 2: some pair is in the relation, one is enough.
+        // Table {(0,1)}, s = 2, X = {0,1}: 1 2 0 keeps it by (0,1); 0 0 1 breaks it: both pairs are (1,0), and a pair is not turned round.
+        2 => some,
+        // Form 3, the only other form in a good case: every pair is in the relation.
+        // The same table, s and X: 1 1 0 keeps it, both pairs are (0,1); 1 2 0 breaks it, since (0,2) is not in the table.
+        _ => every,
     }
 }
 
