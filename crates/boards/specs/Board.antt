@@ -1,43 +1,99 @@
--- The board: a case laid out as 568 plain numbers, so that a search reads what it needs and copies nothing. Place by place:
---   0 to 255     rows: the set of v with (u, v) in relation k, at 32 k + u
---   256 to 511   columns: the set of u with (u, v) in relation k, at 256 + 32 k + v
---   512 to 519   loops: the set of u with (u, u) in relation k, at 512 + k
---   520 to 527   due: the set of rules that step s completes, bit i for rule i, at 520 + s
---   528 to 559   rules: form, relation, step s and set X of rule i, one byte each from the lowest up, at 528 + i
---   560 to 567   allowed: the set of people who may do step s, at 560 + s
+-- The board: a case laid out as plain numbers, so that a search reads what it needs and copies nothing. First the sets, whose places count sets:
+--   rows      the set of v with (u, v) in relation k, relation by relation, in each one for every person
+--   columns   the set of u with (u, v) in relation k, in the same order
+--   loops     the set of u with (u, u) in relation k
+--   allowed   the set of people who may do step s
+-- then the plain numbers, whose places count words:
+--   named     the set of rules that name step s, bit i for rule i
+--   before    the set of steps that must precede step s
+--   rules     form, relation, step s and set X of rule i, one byte each from the lowest up
+--   ready     for each set of steps, those that may be filled next where these are filled
+--   complete  for each set of steps, the rules all of whose steps are among them, bit i for rule i
 -- Past its end every number reads 0, and every set is of nobody.
 use mathlib.Core.Bool.{Bool}
-use mathlib.Core.List.{List, [], _∷_, _++_}
-use Prim.Native.Nat.{ℕ, _+_, _*_, _/_, _%_}
+use mathlib.Core.List.{List}
+use Prim.Native.Nat.{ℕ, _+_, _*_, _/_, _%_, _^_}
 use lib.Dec.{eqb}
-use lib.ListN.{length, getD}
-use Rattle.sets.specs.Lists.{pick, onlyIf, consIf, all}
-use Rattle.sets.specs.Sets.{has, setOf, members}
+use lib.ListN.{getD}
+use Rattle.sets.specs.Lists.{pick, all}
+use Rattle.sets.specs.Sets.{has, setOf, members, common, with, within}
 use Rattle.sets.specs.Stored.{width, setAt}
-use Rattle.games.specs.Arena.{Arena}
 use Rattle.cases.specs.declared.Rule.{Rule}
-use Rattle.cases.specs.Case.{mostRules}
+use Rattle.cases.specs.declared.Filled.{Filled}
+use Rattle.cases.specs.Case.{mostPeople, mostSteps, mostTables, mostRules}
 use Rattle.cases.specs.Rules.{needed, stepsIn}
+use Rattle.cases.specs.Filled.{whoIn}
 
 -- ---- The places
 
+-- how many relations there are, how many rows, how many words a set takes, and how many sets of steps there are
+abbrev pub relations : ℕ
+relations = mostTables + 2
+
+abbrev pub rows : ℕ
+rows = relations * mostPeople
+
+abbrev pub setWords : ℕ
+setWords = 1
+
+abbrev pub stepSets : ℕ
+stepSets = 2 ^ mostSteps
+
+-- where each part starts
+abbrev pub columnsFrom : ℕ
+columnsFrom = rows
+
+abbrev pub loopsFrom : ℕ
+loopsFrom = columnsFrom + rows
+
+abbrev pub allowedFrom : ℕ
+allowedFrom = loopsFrom + relations
+
+abbrev pub namedFrom : ℕ
+namedFrom = (allowedFrom + mostSteps) * setWords
+
+abbrev pub beforeFrom : ℕ
+beforeFrom = namedFrom + mostSteps
+
+abbrev pub rulesFrom : ℕ
+rulesFrom = beforeFrom + mostSteps
+
+abbrev pub readyFrom : ℕ
+readyFrom = rulesFrom + mostRules
+
+abbrev pub completeFrom : ℕ
+completeFrom = readyFrom + stepSets
+
+-- how many words there are
+abbrev pub places : ℕ
+places = completeFrom + stepSets
+
 abbrev pub rowPlace : ℕ → ℕ → ℕ
-rowPlace k u = k * 32 + u
+rowPlace k u = k * mostPeople + u
 
 abbrev pub columnPlace : ℕ → ℕ → ℕ
-columnPlace k v = 256 + (k * 32 + v)
+columnPlace k v = columnsFrom + (k * mostPeople + v)
 
 abbrev pub loopsPlace : ℕ → ℕ
-loopsPlace k = 512 + k
-
-abbrev pub duePlace : ℕ → ℕ
-duePlace s = 520 + s
-
-abbrev pub rulePlace : ℕ → ℕ
-rulePlace i = 528 + i
+loopsPlace k = loopsFrom + k
 
 abbrev pub allowedPlace : ℕ → ℕ
-allowedPlace s = 560 + s
+allowedPlace s = allowedFrom + s
+
+abbrev pub namedPlace : ℕ → ℕ
+namedPlace s = namedFrom + s
+
+abbrev pub beforePlace : ℕ → ℕ
+beforePlace s = beforeFrom + s
+
+abbrev pub rulePlace : ℕ → ℕ
+rulePlace i = rulesFrom + i
+
+abbrev pub readyPlace : ℕ → ℕ
+readyPlace f = readyFrom + f
+
+abbrev pub completePlace : ℕ → ℕ
+completePlace f = completeFrom + f
 
 -- ---- A rule as one number: one byte each, from the lowest up
 
@@ -51,38 +107,47 @@ module _ (b : List ℕ) where
   unfoldable pub allowedOn : ℕ → ℕ
   allowedOn s = setAt b (allowedPlace s)
 
-  -- the rules that step s completes
-  unfoldable pub dueOn : ℕ → ℕ
-  dueOn s = getD b (duePlace s) 0
+  -- the rules that name step s
+  unfoldable pub namedOn : ℕ → ℕ
+  namedOn s = getD b (namedPlace s) 0
 
   -- rule i
   unfoldable pub ruleOn : ℕ → Rule
   ruleOn i = unpacked (getD b (rulePlace i) 0)
 
-  module _ (p : List ℕ) where
-    -- the people with whom, placed next, the pair (person of s, person of x) is in relation k
-    unfoldable pub pairOn : ℕ → ℕ → ℕ → ℕ
-    pairOn k s x =
-        pick (eqb s (length p))
-        (pick (eqb x (length p)) (setAt b (loopsPlace k)) (setAt b (columnPlace k (getD p x 0))))
-        (pick (eqb x (length p)) (setAt b (rowPlace k (getD p s 0))) (setOf (λ u. has (setAt b (rowPlace k (getD p s 0))) (getD p x 0)) width))
+  -- the rules all of whose steps are in a set of steps
+  unfoldable pub completeOn : ℕ → ℕ
+  completeOn f = getD b (completePlace f) 0
 
-    -- with person u placed next, a rule is kept
-    unfoldable pub keptOn : Rule → ℕ → Bool
-    keptOn r u = needed (r .form) (λ x. has (pairOn (r .relation) (r .step .0) x) u) (stepsIn (r .group))
+  module _ (p : Filled) where
+    -- the steps that may be filled next
+    unfoldable pub readyOn : ℕ
+    readyOn = getD b (readyPlace (p .steps)) 0 % stepSets
 
-    -- the people with whom, placed next, every rule is kept that the next step completes
-    unfoldable pub fitsOn : ℕ
-    fitsOn = setOf (λ u. all (λ i. keptOn (ruleOn i) u) (members mostRules (dueOn (length p)))) width
+    module _ (s : ℕ) where
+      -- the rules whose steps are all filled once s is
+      unfoldable pub fullOn : ℕ
+      fullOn = completeOn (with mostSteps (p .steps) s)
 
-  -- ---- The arena of a board, for n people
+      -- the rules that step s completes: they name it, and with it all of their steps are filled
+      unfoldable pub dueOn : ℕ
+      dueOn = common mostRules (namedOn s) fullOn
 
-  abbrev pub boardChain : ℕ → Arena
-  boardChain n =
-      record {
-        Pos = List ℕ;
-        Move = ℕ;
-        people = n;
-        moves = λ p u. consIf (has (allowedOn (length p)) u) u [];
-        after = λ p u. onlyIf (has (fitsOn p) u) (p ++ (u ∷ []));
-      }
+      -- no rule that names s waits for a later step: whoever fills s, no later test asks
+      unfoldable pub settledOn : Bool
+      settledOn = within mostRules (namedOn s) fullOn
+
+      -- the people with whom, placed at s, the pair (person of y, person of x) is in relation k
+      unfoldable pub pairOn : ℕ → ℕ → ℕ → ℕ
+      pairOn k y x =
+          pick (eqb y s)
+          (pick (eqb x s) (setAt b (loopsPlace k)) (setAt b (columnPlace k (whoIn p x))))
+          (pick (eqb x s) (setAt b (rowPlace k (whoIn p y))) (setOf (λ u. has (setAt b (rowPlace k (whoIn p y))) (whoIn p x)) width))
+
+      -- with person u placed at s, a rule is kept
+      unfoldable pub keptOn : Rule → ℕ → Bool
+      keptOn r u = needed (r .form) (λ x. has (pairOn (r .relation) (r .step .0) x) u) (stepsIn (r .group))
+
+      -- the people with whom, placed at s, every rule is kept that s completes
+      unfoldable pub fitsOn : ℕ
+      fitsOn = setOf (λ u. all (λ i. keptOn (ruleOn i) u) (members mostRules dueOn)) width

@@ -2,19 +2,21 @@
 // This crate reads a board and does not know how one is laid out from a case. No function has a `requires`: past a board's end every number reads
 // 0 and every set is of nobody.
 use cases::Case;
-use cases::Position;
+use cases::Filled;
 use cases::Rule;
 use cases::Step;
 use cases::everybody_if;
+use cases::with_step;
 use sets::People;
 use sets::lowest_in;
+use sets::shared;
+use sets::within;
 use sets::without;
 ghost use mathlib.Core.Path.{_≡_};
 ghost use lib.ListN.{getD};
 ghost use Rattle.sets.specs.Sets.{setOf};
 ghost use Rattle.sets.specs.Stored.{width, number};
-ghost use Rattle.cases.specs.Positions.{persons};
-ghost use Rattle.boards.specs.Board.{unpacked, allowedOn, dueOn, ruleOn, pairOn, keptOn, fitsOn};
+ghost use Rattle.boards.specs.Board.{unpacked, allowedOn, namedOn, ruleOn, completeOn, readyOn, fullOn, dueOn, settledOn, pairOn, keptOn, fitsOn};
 
 // How many relations there are: "same person", "different person" and the tables.
 pub const RELATIONS: usize = Case::TABLES + 2;
@@ -22,36 +24,65 @@ pub const RELATIONS: usize = Case::TABLES + 2;
 // How many rows there are, and how many columns: one for each relation and person.
 pub const ROWS: usize = RELATIONS * Case::PEOPLE;
 
-// How many numbers a board has.
-pub const PLACES: usize = 568;
+// How many words a set takes.
+pub const SET_WORDS: usize = 1;
 
-// Where each part of a board starts; the rows start at 0.
-pub const COLUMNS: usize = 256;
+// How many sets of steps there are.
+pub const STEP_SETS: usize = 1 << Case::STEPS;
 
-pub const LOOPS: usize = 512;
+// Where each part of a board starts. The sets stand first, and their places count sets: the rows at 0, then these.
+pub const COLUMNS: usize = ROWS;
 
-pub const DUE: usize = 520;
+pub const LOOPS: usize = COLUMNS + ROWS;
 
-pub const RULES: usize = 528;
+pub const ALLOWED: usize = LOOPS + RELATIONS;
 
-pub const ALLOWED: usize = 560;
+// The plain numbers stand behind the sets, and their places count words.
+pub const NAMED: usize = (ALLOWED + Case::STEPS) * SET_WORDS;
 
-// The people who may do step `at`.
-pub fn allowed(board: &[u32; PLACES], at: u8) -> People
-    ensures { λ r. ⌜ number r ≡ allowedOn (now (board .entry)) at ⌝ }
+pub const BEFORE: usize = NAMED + Case::STEPS;
+
+pub const RULES: usize = BEFORE + Case::STEPS;
+
+pub const READY: usize = RULES + Case::RULES;
+
+pub const COMPLETE: usize = READY + STEP_SETS;
+
+// How many words a board has.
+pub const PLACES: usize = COMPLETE + STEP_SETS;
+
+// The people who may do step s.
+pub fn allowed(board: &[u32; PLACES], s: Step) -> People
+    ensures { λ r. ⌜ number r ≡ allowedOn (now (board .entry)) (s .0) ⌝ }
 {
+    let at = s.0;
     People::at(board, ALLOWED + (at as usize))
 }
 
-// The people with whom, placed next after p, every rule is kept that the next step completes.
-pub fn fits(board: &[u32; PLACES], p: Position) -> People
-    ensures { λ r. ⌜ number r ≡ fitsOn (now (board .entry)) (persons p) ⌝ }
+// The steps that may be filled next.
+pub fn ready(board: &[u32; PLACES], p: Filled) -> u8
+    ensures { λ r. ⌜ r ≡ readyOn (now (board .entry)) p ⌝ }
+{
+    let filled = p.steps;
+    (number_at(board, READY + (filled as usize)) % (STEP_SETS as u32)) as u8
+}
+
+// Does no rule that names step s wait for a later step? Then whoever fills s, no later test asks.
+pub fn settled(board: &[u32; PLACES], p: Filled, s: Step) -> bool
+    ensures { λ r. ⌜ r ≡ settledOn (now (board .entry)) p (s .0) ⌝ }
+{
+    within(named(board, s), full(board, p, s))
+}
+
+// The people with whom, placed at step s, every rule is kept that s completes.
+pub fn fits(board: &[u32; PLACES], p: Filled, s: Step) -> People
+    ensures { λ r. ⌜ number r ≡ fitsOn (now (board .entry)) p (s .0) ⌝ }
 {
     let mut kept = everybody_if(true);
-    let mut left = due(board, p.len);
+    let mut left = due(board, p, s);
     let mut i = lowest_in(left);
     while i < 32 {
-        let here = keepers(board, p, rule(board, i));
+        let here = keepers(board, p, s, rule(board, i));
         kept = kept.common(here);
         left = without(left, i);
         i = lowest_in(left);
@@ -59,18 +90,18 @@ pub fn fits(board: &[u32; PLACES], p: Position) -> People
     kept
 }
 
-// The test of a single rule: the people with whom, placed next after p, it is kept. A pair is (person of the rule's step s, person of a member of its set X).
+// The test of a single rule: the people with whom, placed at step s, it is kept. A pair is (person of the rule's step s, person of a member of its set X).
 // First the people with whom every pair is in the relation are gathered, and those with whom some pair is; then comes one case for each form. In the examples
 // a position lists the persons of step 0, step 1 and so on, the last of them placed next.
-fn keepers(board: &[u32; PLACES], p: Position, rule: Rule) -> People
-    ensures { λ r. ⌜ number r ≡ setOf (keptOn (now (board .entry)) (persons p) rule) width ⌝ }
+fn keepers(board: &[u32; PLACES], p: Filled, s: Step, rule: Rule) -> People
+    ensures { λ r. ⌜ number r ≡ setOf (keptOn (now (board .entry)) p (s .0) rule) width ⌝ }
 {
     let mut every = everybody_if(true);
     let mut some = everybody_if(false);
     let mut left = rule.group as u32;
     let mut x = lowest_in(left);
     while x < 32 {
-        let here = pair(board, p, rule, Step(x));
+        let here = pair(board, p, s, rule, Step(x));
         every = every.common(here);
         some = some.joined(here);
         left = without(left, x);
@@ -90,35 +121,48 @@ fn keepers(board: &[u32; PLACES], p: Position, rule: Rule) -> People
     }
 }
 
-// The people with whom, placed next after p, the pair (person of s, person of x) is in the rule's relation: s and x may be the next step, or be
-// filled.
-fn pair(board: &[u32; PLACES], p: Position, rule: Rule, x: Step) -> People
-    ensures { λ r. ⌜ number r ≡ pairOn (now (board .entry)) (persons p) (rule .relation) (rule .step .0) (x .0) ⌝ }
+// The people with whom, placed at step s, the pair (person of the rule's step, person of x) is in the rule's relation.
+fn pair(board: &[u32; PLACES], p: Filled, s: Step, rule: Rule, x: Step) -> People
+    ensures { λ r. ⌜ number r ≡ pairOn (now (board .entry)) p (s .0) (rule .relation) (rule .step .0) (x .0) ⌝ }
 {
     let k = rule.relation as usize;
-    let rows = k * 32;
-    let columns = COLUMNS + rows;
-    let s = rule.step.0;
-    let of_x = p.person(x.0).0;
-    if s == p.len {
-        if x.0 == p.len {
+    let own = rule.step;
+    let of_x = p.person(x).0;
+    if own.0 == s.0 {
+        if x.0 == s.0 {
             return People::at(board, LOOPS + k);
         }
-        return People::at(board, columns + (of_x as usize));
+        return People::at(board, COLUMNS + (k * Case::PEOPLE + (of_x as usize)));
     }
-    let of_s = p.person(s).0;
-    let row = People::at(board, rows + (of_s as usize));
-    if x.0 == p.len {
+    let of_own = p.person(own).0;
+    let row = People::at(board, k * Case::PEOPLE + (of_own as usize));
+    if x.0 == s.0 {
         return row;
     }
     everybody_if(row.has(of_x))
 }
 
-// The rules that step `at` completes, bit i for rule i.
-fn due(board: &[u32; PLACES], at: u8) -> u32
-    ensures { λ r. ⌜ r ≡ dueOn (now (board .entry)) at ⌝ }
+// The rules that step s completes, bit i for rule i.
+pub fn due(board: &[u32; PLACES], p: Filled, s: Step) -> u32
+    ensures { λ r. ⌜ r ≡ dueOn (now (board .entry)) p (s .0) ⌝ }
 {
-    number_at(board, DUE + (at as usize))
+    shared(named(board, s), full(board, p, s))
+}
+
+// The rules that name step s.
+fn named(board: &[u32; PLACES], s: Step) -> u32
+    ensures { λ r. ⌜ r ≡ namedOn (now (board .entry)) (s .0) ⌝ }
+{
+    let at = s.0;
+    number_at(board, NAMED + (at as usize))
+}
+
+// The rules whose steps are all filled once step s is.
+fn full(board: &[u32; PLACES], p: Filled, s: Step) -> u32
+    ensures { λ r. ⌜ r ≡ fullOn (now (board .entry)) p (s .0) ⌝ }
+{
+    let filled = with_step(p.steps, s);
+    number_at(board, COMPLETE + (filled as usize))
 }
 
 // Rule i.

@@ -6,3 +6,4 @@ pub mod Answers
 pub mod Play
 pub mod Counted
 pub mod Worked
+pub mod Fillings

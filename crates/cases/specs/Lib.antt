@@ -8,3 +8,4 @@ pub mod Shown
 pub mod Play
 -- What contracts of functions here cite besides: positions in memory.
 pub mod Positions
+pub mod Filled

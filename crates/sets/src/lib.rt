@@ -10,14 +10,16 @@ ghost use mathlib.Core.Option.{some};
 ghost use Prim.Native.Nat.{min, _+_, _^_};
 ghost use lib.Dec.{leb, ltb, eqb};
 ghost use Rattle.sets.specs.Lists.{pick, onlyIf};
-ghost use Rattle.sets.specs.Sets.{has, setOf, size, within, meets, past, lowest, with, without, common, joined, difference, everybody, sizeBefore, after, nextSet};
+ghost use Rattle.sets.specs.Sets.{has, setOf, size, within, meets, past, lowest, with, without, common, joined, difference, everybody, sizeBefore, after, fromOn, nextSet};
 ghost use Rattle.sets.specs.Stored.{width, number, stored, noPeople, setAt, nextNumber, lowestNumber, lowWord, highWord, fromWords, wideNumber};
 pub use small::holds;
 pub use small::lowest_in;
 pub use small::past;
 pub use small::share;
+pub use small::shared;
 pub use small::size;
 pub use small::with;
+pub use small::within;
 pub use small::without;
 
 // A set of people.
@@ -237,6 +239,13 @@ impl People {
         ensures { λ r. ⌜ number r ≡ after width (number self) v ⌝ }
     {
         self.difference(People::everybody(v).with(v))
+    }
+
+    // The members from person v on.
+    pub fn from_on(self, v: u8) -> People
+        ensures { λ r. ⌜ number r ≡ fromOn width (number self) v ⌝ }
+    {
+        self.difference(People::everybody(v))
     }
 
     // The set after this one among the sets of at most `most` of the first n people that contain `held`, in ascending number. Nothing where

@@ -1,18 +1,17 @@
-use borrow.Author.Needs.{needs}
 use Rattle.sets.specs.Sets.{size}
-use Rattle.cases.specs.Positions.{persons}
 use Rattle.boards.specs.Board.{dueOn}
 use Rattle.boards.specs.Over.{Narrowed}
 use Rattle.boards.proofs.Over.{over-less, narrowed-start, narrowed-step, narrowed-end}
 use Rattle.boards.proofs.Pairs.{dueTest, due-here, fits-are}
+use borrow.Author.Needs.{needs}
 use Rattle.boards.proofs.fits.Statement.{statement}
 use Rattle.boards.proofs.fits.Tie as tie
 
 abbrev Inv-loop : tie.InvT-loop
-Inv-loop board p kept₀ left₀ i₀ kept left i = Narrowed (dueTest board (persons p)) (dueOn board (p .len)) left i kept
+Inv-loop board p s kept₀ left₀ i₀ kept left i = Narrowed (dueTest board p (s .0)) (dueOn board p (s .0)) left i kept
 
 abbrev μ-loop : tie.MeasureT-loop
-μ-loop board p kept₀ left₀ i₀ kept left i = size 32 left
+μ-loop board p s kept₀ left₀ i₀ kept left i = size 32 left
 
 everybody-if-requires : tie.Need-everybody-if-requires Inv-loop μ-loop
 everybody-if-requires c κs = search needs
@@ -50,11 +49,11 @@ loop-again : tie.Need-loop-again Inv-loop μ-loop
 loop-again c =
     narrowed-step _ (c .before .before .before .before .before .before .loop .inv) (c .before .before .before .before .before .loop-test .taken) _ _
     (c .before .before .before .keepers .result) (c .before .before .common .result) (c .before .without .ensures) (c .lowest-in2 .ensures)
-    (due-here _ _ _ _ _ (c .before .before .before .keepers .ensures) (c .before .before .before .before .rule .ensures))
+    (due-here _ _ _ _ _ _ (c .before .before .before .keepers .ensures) (c .before .before .before .before .rule .ensures))
     (c .before .before .common .ensures)
 
 returns : tie.Need-returns Inv-loop μ-loop
-returns c = fits-are _ _ _ (narrowed-end _ (c .before .loop .inv) (c .loop-test .left))
+returns c = fits-are _ _ _ _ (narrowed-end _ (c .before .loop .inv) (c .loop-test .left))
 
 pub fits-spec : {M : Type 1} → statement M
 fits-spec =

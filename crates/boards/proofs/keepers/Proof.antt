@@ -1,7 +1,6 @@
 use native.Mathlib.Omega.{arith}
 use borrow.Author.Needs.{needs}
 use Rattle.sets.specs.Sets.{size}
-use Rattle.cases.specs.Positions.{persons}
 use Rattle.boards.specs.Over.{Gathered}
 use Rattle.boards.proofs.Over.{over-less, gathered-start, gathered-step, gathered-end}
 use Rattle.boards.proofs.Pairs.{pairTest, pair-here, kept-some, kept-every}
@@ -9,10 +8,10 @@ use Rattle.boards.proofs.keepers.Statement.{statement}
 use Rattle.boards.proofs.keepers.Tie as tie
 
 abbrev Inv-loop : tie.InvT-loop
-Inv-loop board p rule every₀ some₀ left₀ x₀ every some left x = Gathered (pairTest board (persons p) rule) (rule .group) left x every some
+Inv-loop board p s rule every₀ some₀ left₀ x₀ every some left x = Gathered (pairTest board p (s .0) rule) (rule .group) left x every some
 
 abbrev μ-loop : tie.MeasureT-loop
-μ-loop board p rule every₀ some₀ left₀ x₀ every some left x = size 32 left
+μ-loop board p s rule every₀ some₀ left₀ x₀ every some left x = size 32 left
 
 everybody-if-requires : tie.Need-everybody-if-requires Inv-loop μ-loop
 everybody-if-requires c κs = search needs
@@ -54,19 +53,19 @@ loop-again c =
     let at = c .before .before .before .before .before .before .loop in
     gathered-step _ (at .inv) (c .before .before .before .before .before .loop-test .taken) _ _ (c .before .before .before .before .pair .result)
     (c .before .before .before .common .result) (c .before .before .joined .result) (c .before .without .ensures) (c .lowest-in2 .ensures)
-    (pair-here _ _ _ _ _ _ (c .before .before .before .before .pair .ensures)) (c .before .before .before .common .ensures)
+    (pair-here _ _ _ _ _ _ _ (c .before .before .before .before .pair .ensures)) (c .before .before .before .common .ensures)
     (c .before .before .joined .ensures)
 
 returns : tie.Need-returns Inv-loop μ-loop
-returns c = kept-every _ _ _ (omega arith) _ (gathered-end _ (c .before .before .loop .inv) (c .before .loop-test .left) .0)
+returns c = kept-every _ _ _ _ (omega arith) _ (gathered-end _ (c .before .before .loop .inv) (c .before .loop-test .left) .0)
     (λ two. omega (arith, c .match .keys1, two))
 
 returns-2 : tie.Need-returns-2 Inv-loop μ-loop
-returns-2 c = kept-some _ _ _ (omega arith) _ (gathered-end _ (c .before .before .loop .inv) (c .before .loop-test .left) .1)
+returns-2 c = kept-some _ _ _ _ (omega arith) _ (gathered-end _ (c .before .before .loop .inv) (c .before .loop-test .left) .1)
     (c .match .keys2)
 
 returns-3 : tie.Need-returns-3 Inv-loop μ-loop
-returns-3 c = kept-every _ _ _ (omega arith) _ (gathered-end _ (c .before .before .loop .inv) (c .before .loop-test .left) .0)
+returns-3 c = kept-every _ _ _ _ (omega arith) _ (gathered-end _ (c .before .before .loop .inv) (c .before .loop-test .left) .0)
     (c .match .rest .1)
 
 pub keepers-spec : {M : Type 1} → statement M
