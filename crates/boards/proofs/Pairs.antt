@@ -5,8 +5,9 @@ use mathlib.Core.List.{List, _++_, append-nil}
 use Prim.Native.Nat.{ℕ, _<_, _^_}
 use borrow.Author.Tests.{eq-eqb, ne-eqb}
 use lib.Dec.{eqb}
+use lib.ListN.{getD}
 use Rattle.sets.specs.Lists.{pick, from, upto, keep, all, any}
-use Rattle.sets.specs.Sets.{has, setOf, members}
+use Rattle.sets.specs.Sets.{has, setOf, members, with}
 use Rattle.sets.specs.Stored.{width, setAt}
 use Rattle.sets.proofs.Lists.{from-lo, from-append, keep-append, keep-nothing}
 use Rattle.sets.proofs.Bits.{has-beyond}
@@ -17,7 +18,7 @@ use Rattle.cases.specs.Case.{mostSteps, mostRules}
 use Rattle.cases.specs.Rules.{stepsIn}
 use Rattle.cases.specs.Filled.{whoIn}
 use Rattle.cases.proofs.Rules.{needed-as-one}
-use Rattle.boards.specs.Board.{rowPlace, columnPlace, loopsPlace, ruleOn, dueOn, pairOn, keptOn, fitsOn}
+use Rattle.boards.specs.Board.{rowPlace, columnPlace, loopsPlace, completePlace, ruleOn, completeOn, fullOn, dueOn, pairOn, keptOn, fitsOn}
 
 module _ (b : List ℕ) (p : Filled) (s k y x : ℕ) where
   abbrev row : ℕ
@@ -81,6 +82,10 @@ module _ (b : List ℕ) (p : Filled) (s : ℕ) (r : Rule) (small : r .group < 2 
   kept-every n q e = q ∙ kept-as false (ne-eqb (r .form) 2 e)
 
 -- ---- the rules that a step completes
+
+pub full-is : (b : List ℕ) (p : Filled) (s f n : ℕ) → n ≡ getD b (completePlace f) 0 → f ≡ with mostSteps (p .steps) s → n ≡ fullOn b p s
+unfolding fullOn completeOn
+full-is b p s f n q e = q ∙ ap (λ (x : ℕ). getD b (completePlace x) 0) e
 
 abbrev pub dueTest : List ℕ → Filled → ℕ → ℕ → ℕ → Bool
 dueTest b p s i u = keptOn b p s (ruleOn b i) u

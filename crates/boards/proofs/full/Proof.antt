@@ -1,5 +1,4 @@
-use mathlib.Core.Path.{ap, _∙_}
-use Rattle.boards.specs.Board.{completeOn, fullOn}
+use Rattle.boards.proofs.Pairs.{full-is}
 use borrow.Author.Needs.{needs}
 use Rattle.boards.proofs.full.Statement.{statement}
 use Rattle.boards.proofs.full.Tie as tie
@@ -17,8 +16,7 @@ number-at-requires : tie.Need-number-at-requires
 number-at-requires c κs = search needs
 
 returns : tie.Need-returns
-unfolding completeOn fullOn
-returns c = c .number-at .ensures ∙ ap (completeOn _) (c .before .before .with-step .ensures)
+returns c = full-is _ _ _ _ _ (c .number-at .ensures) (c .before .before .with-step .ensures)
 
 pub full-spec : {M : Type 1} → statement M
 full-spec =
