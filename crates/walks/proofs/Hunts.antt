@@ -13,7 +13,6 @@ use Rattle.sets.specs.Sets.{has, setFrom, members, common, difference, everybod
 use Rattle.sets.specs.Stored.{width}
 use Rattle.sets.proofs.Lists.{keep-keep, keep-cong, keep-append, keep-nothing, upto-in, from-lo, from-hi, from-append}
 use Rattle.games.specs.Walks.{Walk, Search, plus, orElse, seek, try, ifNone, ifSome, unbeaten, present, tries, desk, plan, dynamic, decremental, advice, mark, tally, tooFew}
-use Rattle.boards.specs.Board.{allowedOn, fitsOn, boardChain}
 use Rattle.walks.specs.Trying.{InLine}
 use Rattle.walks.proofs.Cuts.{plus-plus, plus-zero}
 use Rattle.walks.proofs.Scans.{Step, stop, go, Hunt, turn, judged, scan, scan-cong, Inside}
@@ -34,8 +33,8 @@ module _ {B : Type 0} where
       at (some b) c = refl
       at none c = let e : c + 0 ≡ c = omega arith in ap (λ (x : ℕ). record { got = none; trials = x }) e
 
-  -- person u's only move, tried and told on
-  pub told-once : {C : Type 0} (tell : ℕ → Search C → Search B) (judge : List ℕ → Search C) (place : ℕ → Option (List ℕ)) (a f : Bool) (q : List ℕ) (u : ℕ)
+  -- a person's only move, tried and told on
+  pub told-once : {C M P : Type 0} (tell : M → Search C → Search B) (judge : P → Search C) (place : M → Option P) (a f : Bool) (q : P) (u : M)
       → tell u (record { got = none; trials = 1 }) ≡ record { got = none; trials = 1 } → tell u (plus 1 (judge q)) ≡ plus 1 (tell u (judge q)) → place u ≡ onlyIf f q
       → seek (λ m. tell m (try judge (place m))) (consIf a u []) ≡ trial a f (tell u (judge q))
   unfolding seek try

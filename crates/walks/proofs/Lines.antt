@@ -1,28 +1,32 @@
--- The line at a position: it holds the people whom the board's arena lets the desk try, in order; so every walk there is a scan of it.
+-- The line at a position where one step is ready: it holds the people whom the board's arena lets the desk try, in order; so every walk there is a
+-- scan of it.
 use mathlib.Core.Path.{_≡_, refl, sym, ap, ap₂, _∙_}
 use mathlib.Core.Option.{Option, none, some}
 use mathlib.Core.Bool.{Bool, true, false, not, _&&_, and-comm}
-use mathlib.Core.List.{List, [], _∷_, _++_, append-nil}
+use mathlib.Core.List.{List, [], _∷_, _++_, map, append-nil}
 use Prim.Native.Nat.{ℕ, zero, suc, _+_, _-_, _≤_, _<_, _^_}
 use native.Mathlib.Nat.{sub-zero}
+use native.Mathlib.Decide.{decLt}
 use native.Mathlib.Omega.{arith}
 use borrow.Author.Tests.{lt-ltb, le-ltb}
 use lib.Dec.{ltb, eqb}
-use lib.ListN.{length}
-use Rattle.sets.specs.Lists.{_∈_, pick, consIf, from, upto, keep}
-use Rattle.sets.specs.Sets.{has, members, common, difference, everybody}
+use lib.Pow.{pow-pos}
+use Rattle.sets.specs.Lists.{_∈_, pick, consIf, valueOr, from, upto, keep}
+use Rattle.sets.specs.Sets.{has, setOf, members, lowest, common, difference, everybody}
 use Rattle.sets.specs.Stored.{width}
 use Rattle.sets.proofs.Lists.{and-true, and-true-end, and-false-end, keep-keep, keep-cong, keep-append, keep-nothing, keep-everything, upto-in, from-lo, from-hi, from-append}
 use Rattle.sets.proofs.Bits.{has-empty}
-use Rattle.sets.proofs.Counting.{has-setOf}
-use Rattle.sets.proofs.Members.{members-in}
+use Rattle.sets.proofs.Counting.{has-setOf, is-setOf, setOf-ext}
+use Rattle.sets.proofs.Members.{members-in, lowest-some}
 use Rattle.games.specs.Arena.{Arena}
 use Rattle.games.specs.Walks.{Walk, Search, plus, seek, try, lacking, having, ifNone, ifSome, unbeaten, present, tries, desk, plan, dynamic, advice, tally, tooFew}
 use Rattle.games.proofs.Walks.{seek-cong, tally-cong}
-use Rattle.cases.specs.Chain.{personOf}
-use Rattle.boards.specs.Board.{allowedOn, fitsOn, boardChain}
-use Rattle.walks.specs.Outcomes.{adviceOn}
-use Rattle.walks.specs.Trying.{InLine}
+use Rattle.cases.specs.declared.Filled.{Filled}
+use Rattle.cases.specs.Case.{mostSteps}
+use Rattle.boards.specs.Board.{allowedOn, readyOn, fitsOn}
+use Rattle.boards.specs.Arena.{Done, by, putOn, boardArena}
+use Rattle.walks.specs.Outcomes.{named, adviceOn}
+use Rattle.walks.specs.Trying.{stepOn, OneReady, asked, InLine}
 use Rattle.walks.proofs.Cuts.{plus-plus, plus-zero}
 use Rattle.walks.proofs.Scans.{Step, stop, go, Hunt, turn, judged, scan, scan-cong, Inside, Going, going-start}
 use Rattle.walks.proofs.Hunts.{trial, told-once, first, seek-scan, oneMore, counting, few-start, tally-scan}
@@ -85,12 +89,12 @@ countGood t u (some x) s = go s
 abbrev pub showing : ℕ → (ℕ → Search ℕ) → Hunt (Option ℕ) (Option ℕ) (ℕ × ℕ)
 showing t sub = record { sub = sub; step = countGood t; last = λ s. some (s .1) }
 
-naming-same : (sub : ℕ → Search ℕ) → Same (first (λ u. ifSome (u, u) (unbeaten (sub u)))) (naming sub) personOf
+naming-same : (m : ℕ → Done) (sub : ℕ → Search ℕ) → Same (first (λ u. ifSome (u, m u) (unbeaten (sub u)))) (naming sub) named
 unfolding ifSome ifNone
-naming-same sub = record { trials = λ u. refl; step = λ u s. at u (sub u .got) s; last = λ s. refl }
+naming-same m sub = record { trials = λ u. refl; step = λ u s. at u (sub u .got) s; last = λ s. refl }
   where
     at : (u : ℕ) (o : Option ℕ) (s : Unit {0})
-        → toldStep personOf (first (λ v. ifSome (v, v) (unbeaten (sub v))) .step u (having (u, u) (lacking (tt {0}) o)) s) ≡ nameFirst u o s
+        → toldStep named (first (λ v. ifSome (v, m v) (unbeaten (sub v))) .step u (having (u, m u) (lacking (tt {0}) o)) s) ≡ nameFirst u o s
     at u none s = refl
     at u (some x) s = refl
 
@@ -117,23 +121,149 @@ showing-same t sub = record { trials = λ u. refl; step = λ u s. at u (sub u .g
 -- ---- the line
 
 -- what the code makes it of
-pub line-is : (b : List ℕ) (n A len : ℕ) (p : List ℕ) (al di ev T fi F : ℕ) → length p ≡ len
-    → al ≡ allowedOn b len → di ≡ difference width al A → ev ≡ everybody width n → T ≡ common width di ev → fi ≡ fitsOn b p → F ≡ common width T fi → InLine b n A p T F
-line-is b n A len p al di ev T fi F l a d e t f g =
-    record {
-      tried = t ∙ ap₂ (λ x y. common width x y) (d ∙ ap (λ x. difference width x A) (a ∙ ap (allowedOn b) (sym l))) e;
-      fit = g ∙ ap (λ x. common width T x) f;
-    }
+module _ (b : List ℕ) (n A : ℕ) (p : Filled) (s : ℕ) (e : s ≡ stepOn b p) where
+  pub line-is : (al di ev T fi F : ℕ) → s < mostSteps → al ≡ allowedOn b s → di ≡ difference width al A → ev ≡ everybody width n → T ≡ common width di ev
+      → fi ≡ fitsOn b p s → F ≡ common width T fi → InLine b n A p T F
+  line-is al di ev T fi F l a d v t f g =
+      record {
+        tried = t ∙ ap₂ (λ x y. common width x y) (d ∙ ap (λ x. difference width x A) (a ∙ sym known)) v;
+        fit = g ∙ ap (λ x. common width T x) (f ∙ ap (fitsOn b p) e);
+      }
+    where
+      known : asked b p ≡ allowedOn b s
+      known = ap (λ x. pick (ltb x mostSteps) (allowedOn b x) 0) (sym e) ∙ ap (λ (x : Bool). pick x (allowedOn b s) 0) (lt-ltb s mostSteps l)
 
-module _ (b : List ℕ) (n A : ℕ) (p : List ℕ) (T F : ℕ) (line : InLine b n A p T F) (h : n ≤ width) where
+  pub line-none : (T F : ℕ) → mostSteps ≤ s → T ≡ 0 → F ≡ 0 → InLine b n A p T F
+  line-none T F l t f =
+      record {
+        tried = t ∙ sym (nobody (λ w. has (difference width (asked b p) A) w && has (everybody width n) w)
+            (λ w h. ap (λ (x : Bool). x && has (everybody width n) w)
+            (has-setOf (λ u. has (asked b p) u && not (has A u)) width w h
+            ∙ ap (λ (x : ℕ). has x w && not (has A w)) unknown ∙ ap (λ (x : Bool). x && not (has A w)) (has-empty w))));
+        fit = f ∙ sym (nobody (λ w. has T w && has (fitsOn b p (stepOn b p)) w)
+            (λ w h. ap (λ (x : Bool). x && has (fitsOn b p (stepOn b p)) w) (ap (λ (x : ℕ). has x w) t ∙ has-empty w)));
+      }
+    where
+      unknown : asked b p ≡ 0
+      unknown = ap (λ x. pick (ltb x mostSteps) (allowedOn b x) 0) (sym e) ∙ ap (λ (x : Bool). pick x (allowedOn b s) 0) (le-ltb s mostSteps l)
+
+      nobody : (f : ℕ → Bool) → ((w : ℕ) → w < width → f w ≡ false) → setOf f width ≡ 0
+      nobody f h = sym (is-setOf f width 0 (pow-pos width) (λ w l. has-empty w ∙ sym (h w l)))
+
+-- some people are taken off
+pub line-without : {b : List ℕ} {n : ℕ} {p : Filled} {T F : ℕ} (A T′ F′ : ℕ) → InLine b n 0 p T F → T′ ≡ difference width T A → F′ ≡ difference width F A
+    → InLine b n A p T′ F′
+line-without {b} {n} {p} {T} {F} A T′ F′ line t f =
+    record {
+      tried = t ∙ setOf-ext _ _ width (λ u l.
+          ap (λ (x : Bool). x && not (has A u)) (ap (λ x. has x u) (line .tried) ∙ has-setOf _ width u l ∙ ap (λ (x : Bool). x && has (everybody width n) u) (off 0 u l))
+          ∙ reorder (has (asked b p) u) (has (everybody width n) u) (not (has A u)) (not (has 0 u)) (ap not (has-empty u))
+          ∙ ap (λ (x : Bool). x && has (everybody width n) u) (sym (off A u l)));
+      fit = f ∙ setOf-ext _ _ width (λ u l.
+          ap (λ (x : Bool). x && not (has A u)) (ap (λ x. has x u) (line .fit) ∙ has-setOf _ width u l)
+          ∙ swap (has T u) (has (fitsOn b p (stepOn b p)) u) (not (has A u))
+          ∙ ap (λ (x : Bool). x && has (fitsOn b p (stepOn b p)) u) (sym (ap (λ x. has x u) t ∙ has-setOf _ width u l)));
+    }
+  where
+    off : (B u : ℕ) → u < width → has (difference width (asked b p) B) u ≡ has (asked b p) u && not (has B u)
+    off B u l = has-setOf (λ w. has (asked b p) w && not (has B w)) width u l
+
+    reorder : (a e x y : Bool) → y ≡ true → ((a && y) && e) && x ≡ (a && x) && e
+    reorder true true true y q = rw q
+    reorder true true false y q = rw q
+    reorder true false true y q = rw q
+    reorder true false false y q = rw q
+    reorder false e x y q = refl
+
+    swap : (a e x : Bool) → (a && e) && x ≡ (a && x) && e
+    swap true true true = refl
+    swap true true false = refl
+    swap true false true = refl
+    swap true false false = refl
+    swap false e x = refl
+
+-- the only one below m that passes a test, if it does
+keep-one : (test : ℕ → Bool) (m n : ℕ) → n < m → ((s : ℕ) → s < m → (s ≡ n → ⊥) → test s ≡ false) → keep test (upto m) ≡ consIf (test n) n []
+unfolding upto
+keep-one test m n h others =
+    ap (λ (k : ℕ). keep test (from 0 k)) whole
+    ∙ ap (keep test) (from-append 0 n (suc (m - suc n)))
+    ∙ keep-append test (from 0 n) (from (0 + n) (suc (m - suc n)))
+    ∙ ap₂ _++_ below (ap (λ (k : ℕ). keep test (from k (suc (m - suc n)))) zero-and ∙ here)
+  where
+    whole : m ≡ n + suc (m - suc n)
+    whole = omega arith
+
+    zero-and : 0 + n ≡ n
+    zero-and = omega arith
+
+    below : keep test (from 0 n) ≡ []
+    below = keep-nothing test (from 0 n) (λ s k. let b = from-hi 0 n s k in others s (omega arith) (λ q. omega arith))
+
+    above : keep test (from (suc n) (m - suc n)) ≡ []
+    above = keep-nothing test (from (suc n) (m - suc n)) (λ s k. let a = from-lo (suc n) (m - suc n) s k in let b = from-hi (suc n) (m - suc n) s k in others s (omega arith) (λ q. omega arith))
+
+    here : keep test (from n (suc (m - suc n))) ≡ consIf (test n) n []
+    here = unfold from keep in ap (λ (l : List ℕ). consIf (test n) n l) above
+
+step-is : (b : List ℕ) (p : Filled) → stepOn b p < mostSteps → (o : Option ℕ) → lowest 32 (readyOn b p) ≡ o → o ≡ some (stepOn b p)
+unfolding stepOn
+step-is b p l none q = let z : valueOr 32 (lowest 32 (readyOn b p)) ≡ 32 = ap (valueOr 32) q in let w : ⊥ = omega arith in absurd w
+step-is b p l (some y) q = ap some (sym (ap (valueOr 32) q))
+
+step-ready : (b : List ℕ) (p : Filled) → stepOn b p < mostSteps → has (readyOn b p) (stepOn b p) ≡ true
+step-ready b p l = lowest-some 32 (readyOn b p) (stepOn b p) (step-is b p l (lowest 32 (readyOn b p)) refl) .1
+
+pub step-found : (b : List ℕ) (p : Filled) (r s : ℕ) → r ≡ readyOn b p → s ≡ valueOr 32 (lowest 32 r) → s ≡ stepOn b p
+unfolding stepOn
+step-found b p r s q e = e ∙ ap (λ (x : ℕ). valueOr 32 (lowest 32 x)) q
+
+-- a person has one move at most, at the step that is ready
+module _ (b : List ℕ) (n : ℕ) (one : OneReady b) (p : Filled) (u : ℕ) where
+  abbrev test : ℕ → Bool
+  test s = has (readyOn b p) s && has (allowedOn b s) u
+
+  others : (s : ℕ) → s < mostSteps → (s ≡ stepOn b p → ⊥) → test s ≡ false
+  others s l d = ap (λ (x : Bool). x && has (allowedOn b s) u) (false-by (has (readyOn b p) s) (λ e. d (one p s l e)))
+    where
+      false-by : (x : Bool) → (x ≡ true → ⊥) → x ≡ false
+      false-by true f = absurd (f refl)
+      false-by false f = refl
+
+  pub one-move : boardArena b n .moves p u ≡ consIf (has (asked b p) u) (by u (stepOn b p)) []
+  one-move = go (decLt (stepOn b p) mostSteps)
+    where
+      moved : (x : Bool) (s : ℕ) → map (by u) (consIf x s []) ≡ consIf x (by u s) []
+      moved true s = refl
+      moved false s = refl
+
+      go : Dec (stepOn b p < mostSteps) → map (by u) (keep test (upto mostSteps)) ≡ consIf (has (asked b p) u) (by u (stepOn b p)) []
+      go (yes l) =
+          ap (map (by u)) (keep-one test mostSteps (stepOn b p) l others)
+          ∙ moved (test (stepOn b p)) (stepOn b p)
+          ∙ ap (λ (x : Bool). consIf x (by u (stepOn b p)) [])
+          (ap (λ (x : Bool). x && has (allowedOn b (stepOn b p)) u) (step-ready b p l) ∙ ap (λ (x : ℕ). has x u) (sym (ap (λ (x : Bool). pick x (allowedOn b (stepOn b p)) 0) (lt-ltb (stepOn b p) mostSteps l))))
+      go (no l) =
+          ap (map (by u)) (keep-nothing test (upto mostSteps) (λ s m. others s (upto-in mostSteps s m) (λ q. let k = upto-in mostSteps s m in omega arith)))
+          ∙ ap (λ (x : Bool). consIf x (by u (stepOn b p)) [])
+          (sym (ap (λ (x : ℕ). has x u) (ap (λ (x : Bool). pick x (allowedOn b (stepOn b p)) 0) (le-ltb (stepOn b p) mostSteps (omega arith))) ∙ has-empty u))
+
+module _ (b : List ℕ) (n A : ℕ) (p : Filled) (T F : ℕ) (one : OneReady b) (line : InLine b n A p T F) (h : n ≤ width) where
   abbrev G : Arena
-  G = boardChain b n
+  G = boardArena b n
 
   abbrev al : ℕ
-  al = allowedOn b (length p)
+  al = asked b p
 
   abbrev fi : ℕ
-  fi = fitsOn b p
+  fi = fitsOn b p (stepOn b p)
+
+  -- person u's move, and the position that it leaves
+  abbrev mv : ℕ → Done
+  mv u = by u (stepOn b p)
+
+  abbrev put : ℕ → Filled
+  put u = putOn p u (stepOn b p)
 
   in-tried : (u : ℕ) → u < width → has T u ≡ (has al u && not (has A u)) && ltb u n
   in-tried u l =
@@ -179,57 +309,59 @@ module _ (b : List ℕ) (n A : ℕ) (p : List ℕ) (T F : ℕ) (line : InLine b 
       (λ u m. let i = members-in width T u m in sym (in-fit u (i .0) ∙ ap (λ (x : Bool). x && has fi u) (i .1))) s
 
   -- a turn of the desk
-  pub desk-line : {B : Type 0} (judge : List ℕ → Search B) → desk G judge A p ≡ scan (first (λ u. judge (p ++ (u ∷ [])))) F (members width T) tt
+  pub desk-line : {B : Type 0} (judge : Filled → Search B) → desk G judge A p ≡ scan (first (λ u. judge (put u))) F (members width T) tt
   unfolding desk present tries
   desk-line judge =
-      seek-cong (tries G judge p) (λ u. trial (has al u) (has fi u) (judge (p ++ (u ∷ [])))) (keep (λ u. not (has A u)) (upto n))
-      (λ u m. told-once (λ m w. w) judge (G .after p) (has al u) (has fi u) (p ++ (u ∷ [])) u refl refl refl)
-      ∙ seek-scan al fi (λ u. judge (p ++ (u ∷ []))) (keep (λ u. not (has A u)) (upto n))
-      ∙ line-scan (first (λ u. judge (p ++ (u ∷ [])))) tt
+      seek-cong (tries G judge p) (λ u. trial (has al u) (has fi u) (judge (put u))) (keep (λ u. not (has A u)) (upto n))
+      (λ u m. ap (seek (λ m. try judge (G .after p m))) (one-move b n one p u) ∙ told-once (λ m w. w) judge (G .after p) (has al u) (has fi u) (put u) (mv u) refl refl refl)
+      ∙ seek-scan al fi (λ u. judge (put u)) (keep (λ u. not (has A u)) (upto n))
+      ∙ line-scan (first (λ u. judge (put u))) tt
 
-  pub plan-line : (k : ℕ) → plan G A (suc k) p ≡ scan (first (λ u. plan G A k (p ++ (u ∷ [])))) F (members width T) tt
+  pub plan-line : (k : ℕ) → plan G A (suc k) p ≡ scan (first (λ u. plan G A k (put u))) F (members width T) tt
   unfolding plan
   plan-line k = desk-line (plan G A k)
 
   -- a turn of the desk against the away side's next turn: A where it beats the desk
-  pub turn-line : (next : List ℕ → Search ℕ)
-      → ifNone A (desk G (λ q. unbeaten (next q)) A p) ≡ scan (beating A (λ u. next (p ++ (u ∷ [])))) F (members width T) tt
+  pub turn-line : (next : Filled → Search ℕ)
+      → ifNone A (desk G (λ q. unbeaten (next q)) A p) ≡ scan (beating A (λ u. next (put u))) F (members width T) tt
   unfolding ifNone
   turn-line next =
       ap (λ w. record { got = lacking A (w .got); trials = w .trials }) (desk-line (λ q. unbeaten (next q)))
-      ∙ scan-told (first (λ u. unbeaten (next (p ++ (u ∷ []))))) (beating A (λ u. next (p ++ (u ∷ [])))) (lacking A)
-      (beating-same A (λ u. next (p ++ (u ∷ [])))) F (members width T) tt
+      ∙ scan-told (first (λ u. unbeaten (next (put u)))) (beating A (λ u. next (put u))) (lacking A)
+      (beating-same A (λ u. next (put u))) F (members width T) tt
 
-  pub advice-line : (t k : ℕ) → adviceOn b n t (suc k) A p ≡ scan (naming (λ u. dynamic G t k (p ++ (u ∷ [])))) F (members width T) tt
+  pub advice-line : (t k : ℕ) → adviceOn b n t (suc k) A p ≡ scan (naming (λ u. dynamic G t k (put u))) F (members width T) tt
   unfolding advice present ifSome plus
   advice-line t k =
-      ap (λ w. record { got = personOf (w .got); trials = w .trials })
+      ap (λ w. record { got = named (w .got); trials = w .trials })
       (seek-cong (λ u. seek (λ m. ifSome (u, m) (try (λ q. unbeaten (dynamic G t k q)) (G .after p m))) (G .moves p u))
-      (λ u. trial (has al u) (has fi u) (ifSome (u, u) (unbeaten (dynamic G t k (p ++ (u ∷ [])))))) (keep (λ u. not (has A u)) (upto n))
-      (λ u m. told-once (λ m w. ifSome (u, m) w) (λ q. unbeaten (dynamic G t k q)) (G .after p) (has al u) (has fi u) (p ++ (u ∷ [])) u refl refl refl)
-      ∙ seek-scan al fi (λ u. ifSome (u, u) (unbeaten (dynamic G t k (p ++ (u ∷ []))))) (keep (λ u. not (has A u)) (upto n))
-      ∙ line-scan (first (λ u. ifSome (u, u) (unbeaten (dynamic G t k (p ++ (u ∷ [])))))) tt)
-      ∙ scan-told (first (λ u. ifSome (u, u) (unbeaten (dynamic G t k (p ++ (u ∷ [])))))) (naming (λ u. dynamic G t k (p ++ (u ∷ [])))) personOf
-      (naming-same (λ u. dynamic G t k (p ++ (u ∷ [])))) F (members width T) tt
+      (λ u. trial (has al u) (has fi u) (ifSome (u, mv u) (unbeaten (dynamic G t k (put u))))) (keep (λ u. not (has A u)) (upto n))
+      (λ u m. ap (seek (λ m. ifSome (u, m) (try (λ q. unbeaten (dynamic G t k q)) (G .after p m)))) (one-move b n one p u)
+      ∙ told-once (λ m w. ifSome (u, m) w) (λ q. unbeaten (dynamic G t k q)) (G .after p) (has al u) (has fi u) (put u) (mv u) refl refl refl)
+      ∙ seek-scan al fi (λ u. ifSome (u, mv u) (unbeaten (dynamic G t k (put u)))) (keep (λ u. not (has A u)) (upto n))
+      ∙ line-scan (first (λ u. ifSome (u, mv u) (unbeaten (dynamic G t k (put u))))) tt)
+      ∙ scan-told (first (λ u. ifSome (u, mv u) (unbeaten (dynamic G t k (put u))))) (naming (λ u. dynamic G t k (put u))) named
+      (naming-same mv (λ u. dynamic G t k (put u))) F (members width T) tt
 
 -- everybody is present in the dynamic walk
-module _ (b : List ℕ) (n : ℕ) (p : List ℕ) (T F : ℕ) (line : InLine b n 0 p T F) (h : n ≤ width) where
+module _ (b : List ℕ) (n : ℕ) (p : Filled) (T F : ℕ) (one : OneReady b) (line : InLine b n 0 p T F) (h : n ≤ width) where
   everybody-present : keep (λ u. not (has 0 u)) (upto n) ≡ upto n
   everybody-present = keep-everything (λ u. not (has 0 u)) (upto n) (λ u m. ap not (has-empty u))
 
-  pub dynamic-line : (t k : ℕ) → dynamic (boardChain b n) t (suc k) p ≡ scan (showing t (λ u. dynamic (boardChain b n) t k (p ++ (u ∷ [])))) F (members width T) (0, 0)
+  pub dynamic-line : (t k : ℕ) → dynamic (boardArena b n) t (suc k) p ≡ scan (showing t (λ u. dynamic (boardArena b n) t k (putOn p u (stepOn b p)))) F (members width T) (0, 0)
   unfolding dynamic tries
   dynamic-line t k =
       ap (tooFew t)
-      (tally-cong (tries (boardChain b n) (λ q. unbeaten (dynamic (boardChain b n) t k q)) p) (λ u. trial (has (allowedOn b (length p)) u) (has (fitsOn b p) u) (sub u)) (upto n) (suc t)
-      (λ u m. told-once (λ m w. w) (λ q. unbeaten (dynamic (boardChain b n) t k q)) (boardChain b n .after p) (has (allowedOn b (length p)) u) (has (fitsOn b p) u) (p ++ (u ∷ [])) u refl refl refl))
-      ∙ ap (λ (w : ℕ). tooFew t (tally (λ u. trial (has (allowedOn b (length p)) u) (has (fitsOn b p) u) (sub u)) (upto n) (suc w))) (sym (sub-zero t))
+      (tally-cong (tries (boardArena b n) (λ q. unbeaten (dynamic (boardArena b n) t k q)) p) (λ u. trial (has (asked b p) u) (has (fitsOn b p (stepOn b p)) u) (sub u)) (upto n) (suc t)
+      (λ u m. ap (seek (λ m. try (λ q. unbeaten (dynamic (boardArena b n) t k q)) (boardArena b n .after p m))) (one-move b n one p u)
+      ∙ told-once (λ m w. w) (λ q. unbeaten (dynamic (boardArena b n) t k q)) (boardArena b n .after p) (has (asked b p) u) (has (fitsOn b p (stepOn b p)) u) (putOn p u (stepOn b p)) (by u (stepOn b p)) refl refl refl))
+      ∙ ap (λ (w : ℕ). tooFew t (tally (λ u. trial (has (asked b p) u) (has (fitsOn b p (stepOn b p)) u) (sub u)) (upto n) (suc w))) (sym (sub-zero t))
       ∙ few-start t _
-      ∙ tally-scan t (allowedOn b (length p)) (fitsOn b p) sub (upto n) 0 0 (omega arith)
-      ∙ ap (λ l. scan (counting t sub) (fitsOn b p) (keep (has (allowedOn b (length p))) l) (0, 0)) (sym everybody-present)
-      ∙ line-scan b n 0 p T F line h (counting t sub) (0, 0)
-      ∙ scan-told (counting t sub) (showing t (λ u. dynamic (boardChain b n) t k (p ++ (u ∷ [])))) (λ r. r)
-      (showing-same t (λ u. dynamic (boardChain b n) t k (p ++ (u ∷ [])))) F (members width T) (0, 0)
+      ∙ tally-scan t (asked b p) (fitsOn b p (stepOn b p)) sub (upto n) 0 0 (omega arith)
+      ∙ ap (λ l. scan (counting t sub) (fitsOn b p (stepOn b p)) (keep (has (asked b p)) l) (0, 0)) (sym everybody-present)
+      ∙ line-scan b n 0 p T F one line h (counting t sub) (0, 0)
+      ∙ scan-told (counting t sub) (showing t (λ u. dynamic (boardArena b n) t k (putOn p u (stepOn b p)))) (λ r. r)
+      (showing-same t (λ u. dynamic (boardArena b n) t k (putOn p u (stepOn b p)))) F (members width T) (0, 0)
     where
       sub : ℕ → Search (Unit {0})
-      sub u = unbeaten (dynamic (boardChain b n) t k (p ++ (u ∷ [])))
+      sub u = unbeaten (dynamic (boardArena b n) t k (putOn p u (stepOn b p)))

@@ -1,11 +1,10 @@
--- Where each search's loop starts, what a search answers with no step left, and a position with one person more.
+-- Where each search's loop starts, what a search answers with no step left, and the position that a placing leaves.
 use mathlib.Core.Path.{_≡_, refl, sym, ap, ap₂, _∙_}
 use mathlib.Core.Option.{Option, none, some}
 use mathlib.Core.List.{List, [], _∷_, _++_}
 use Prim.Native.Nat.{ℕ, zero, suc, _+_, _-_, _≤_, _<_, _^_, min}
 use native.Mathlib.Nat.{min-eq-left}
 use native.Mathlib.Omega.{arith}
-use lib.ListN.{length, length-append}
 use Rattle.sets.specs.Sets.{size, members, sets, nextSet}
 use Rattle.sets.specs.Stored.{width, number, noPeople, nextNumber}
 use Rattle.sets.specs.declared.Next.{Next}
@@ -16,24 +15,20 @@ use Rattle.games.specs.Arena.{Arena}
 use Rattle.games.specs.Walks.{Walk, Search, lacking, ifNone, orElse, seek, plan, static, decremental, oneShot, dynamic, advice}
 use Rattle.games.specs.Limit.{stopped, whole, cut}
 use Rattle.games.proofs.Limits.{cut-past}
-use Rattle.cases.specs.Case.{mostSteps}
-use Rattle.cases.specs.Positions.{persons, nextPersons}
+use Rattle.cases.specs.Filled.{placedAt}
 use Rattle.cases.specs.declared.Person.{Person}
-use Rattle.cases.specs.declared.Position.{Position}
-use Rattle.cases.proofs.Positions.{persons-length, next-room}
-use Rattle.boards.specs.Board.{boardChain}
+use Rattle.cases.specs.declared.Step.{Step}
+use Rattle.cases.specs.declared.Filled.{Filled}
+use Rattle.boards.specs.Arena.{putOn, boardArena}
 use Rattle.walks.specs.Outcomes.{beatsOn, passOn, adviceOn}
-use Rattle.walks.specs.Trying.{InLine}
+use Rattle.walks.specs.Trying.{stepOn, OneReady, InLine}
 use Rattle.walks.proofs.Cuts.{plus-zero, finished, over, ends}
 use Rattle.walks.proofs.Scans.{Hunt, scan, Going, going-start}
 use Rattle.walks.proofs.Hunts.{first}
 use Rattle.walks.proofs.Lines.{naming, beating, showing, fit-inside, plan-line, turn-line, advice-line, dynamic-line}
 use Rattle.walks.proofs.Sweeps.{Sweep, sweep-start}
 
--- ---- a position with one person more, where there is room
-
-pub room : (len left : ℕ) → len + left ≤ 8 → (left ≡ 0 → ⊥) → len < mostSteps
-room len left h f = omega arith
+-- ---- steps that are left
 
 pub above-zero : {left : ℕ} → (left ≡ 0 → ⊥) → 0 < left
 above-zero f = omega arith
@@ -41,13 +36,11 @@ above-zero f = omega arith
 pub some-left : {left : ℕ} → 0 < left → left ≡ 0 → ⊥
 some-left h e = omega arith
 
-pub placed-persons : (p q : Position) (v : Person) → persons q ≡ nextPersons (persons p) (v .0) → p .len < mostSteps → persons q ≡ persons p ++ (v .0 ∷ [])
-placed-persons p q v e h = e ∙ next-room (persons p) (v .0) (omega (arith, persons-length p))
+-- ---- the position that a placing leaves
 
-pub placed-fits : (p q : Position) (v : Person) (left : ℕ) → persons q ≡ nextPersons (persons p) (v .0) → p .len + left ≤ 8 → (left ≡ 0 → ⊥) → q .len + (left - 1) ≤ 8
-placed-fits p q v left e h f =
-    let l = ap length (placed-persons p q v e (room (p .len) left h f)) ∙ length-append (persons p) (v .0 ∷ []) in
-    omega (arith, persons-length p, persons-length q, l)
+pub placed-is : (b : List ℕ) (p q : Filled) (s : Step) (v : Person) → q ≡ placedAt p (s .0) v → s .0 ≡ stepOn b p → q ≡ putOn p (v .0) (stepOn b p)
+unfolding putOn
+placed-is b p q s v e d = e ∙ ap (λ (x : ℕ). placedAt p x v) d
 
 -- nobody, as a number
 pub nobody-shown : {s : People} → s ≡ noPeople → number s ≡ 0
@@ -56,20 +49,20 @@ nobody-shown e = ap number e ∙ number-none
 -- ---- what is hunted for at a position
 
 module _ (b : List ℕ) (n : ℕ) where
-  abbrev pub planHunt : ℕ → ℕ → List ℕ → Hunt (Option (List ℕ)) (Option (List ℕ)) (Unit {0})
-  planHunt A k p = first (λ u. plan (boardChain b n) A k (p ++ (u ∷ [])))
+  abbrev pub planHunt : ℕ → ℕ → Filled → Hunt (Option Filled) (Option Filled) (Unit {0})
+  planHunt A k p = first (λ u. plan (boardArena b n) A k (putOn p u (stepOn b p)))
 
-  abbrev pub adviceHunt : ℕ → ℕ → List ℕ → Hunt (Option ℕ) (Option ℕ) (Unit {0})
-  adviceHunt t k p = naming (λ u. dynamic (boardChain b n) t k (p ++ (u ∷ [])))
+  abbrev pub adviceHunt : ℕ → ℕ → Filled → Hunt (Option ℕ) (Option ℕ) (Unit {0})
+  adviceHunt t k p = naming (λ u. dynamic (boardArena b n) t k (putOn p u (stepOn b p)))
 
-  abbrev pub dynamicHunt : ℕ → ℕ → List ℕ → Hunt (Option ℕ) (Option ℕ) (ℕ × ℕ)
-  dynamicHunt t k p = showing t (λ u. dynamic (boardChain b n) t k (p ++ (u ∷ [])))
+  abbrev pub dynamicHunt : ℕ → ℕ → Filled → Hunt (Option ℕ) (Option ℕ) (ℕ × ℕ)
+  dynamicHunt t k p = showing t (λ u. dynamic (boardArena b n) t k (putOn p u (stepOn b p)))
 
-  abbrev pub deskHunt : ℕ → ℕ → ℕ → List ℕ → Hunt (Option ℕ) (Option ℕ) (Unit {0})
-  deskHunt t A k p = beating A (λ u. decremental (boardChain b n) t k A (p ++ (u ∷ [])))
+  abbrev pub deskHunt : ℕ → ℕ → ℕ → Filled → Hunt (Option ℕ) (Option ℕ) (Unit {0})
+  deskHunt t A k p = beating A (λ u. decremental (boardArena b n) t k A (putOn p u (stepOn b p)))
 
-  abbrev pub passHunt : ℕ → ℕ → List ℕ → Hunt (Option ℕ) (Option ℕ) (Unit {0})
-  passHunt t k p = beating 0 (λ u. oneShot (boardChain b n) t k (p ++ (u ∷ [])))
+  abbrev pub passHunt : ℕ → ℕ → Filled → Hunt (Option ℕ) (Option ℕ) (Unit {0})
+  passHunt t k p = beating 0 (λ u. oneShot (boardArena b n) t k (putOn p u (stepOn b p)))
 
 -- ---- with no step left
 
@@ -102,69 +95,69 @@ module _ (G : Arena) (k : ℕ) (p : G .Pos) (z : k ≡ 0) where
       ap (λ (j : ℕ). static G t j p) z
       ∙ seek-nothing (λ A. ifNone A (plan G A 0 p)) (sets (G .people) t 0) (λ A. refl)
 
-pub advice-full : (b : List ℕ) (n t k A : ℕ) (p : List ℕ) → k ≡ 0 → adviceOn b n t k A p ≡ record { got = none; trials = 0 }
+pub advice-full : (b : List ℕ) (n t k A : ℕ) (p : Filled) → k ≡ 0 → adviceOn b n t k A p ≡ record { got = none; trials = 0 }
 unfolding advice
 advice-full b n t k A p z = ap (λ (j : ℕ). adviceOn b n t j A p) z
 
 -- ---- where a loop starts: k steps are left, at least one
 
-module _ (b : List ℕ) (n k : ℕ) (p : List ℕ) (limit T F : ℕ) (some-left : k ≡ 0 → ⊥) (h : n ≤ width) where
+module _ (b : List ℕ) (n k : ℕ) (p : Filled) (limit T F : ℕ) (some-left : k ≡ 0 → ⊥) (h : n ≤ width) (one : OneReady b) where
   one-less : (j : ℕ) → (j ≡ 0 → ⊥) → j ≡ suc (j - 1)
   one-less j f = omega arith
 
-  pub plan-going : (A : ℕ) → InLine b n A p T F → Going (planHunt b n A (k - 1) p) (plan (boardChain b n) A k p) limit T F 0 tt
+  pub plan-going : (A : ℕ) → InLine b n A p T F → Going (planHunt b n A (k - 1) p) (plan (boardArena b n) A k p) limit T F 0 tt
   plan-going A l =
-      going-start _ _ limit T F tt (fit-inside b n A p T F l h)
-      (ap (λ (j : ℕ). plan (boardChain b n) A j p) (one-less k some-left) ∙ plan-line b n A p T F l h (k - 1))
+      going-start _ _ limit T F tt (fit-inside b n A p T F one l h)
+      (ap (λ (j : ℕ). plan (boardArena b n) A j p) (one-less k some-left) ∙ plan-line b n A p T F one l h (k - 1))
 
-  pub dynamic-going : (t : ℕ) → InLine b n 0 p T F → Going (dynamicHunt b n t (k - 1) p) (dynamic (boardChain b n) t k p) limit T F 0 (0, 0)
+  pub dynamic-going : (t : ℕ) → InLine b n 0 p T F → Going (dynamicHunt b n t (k - 1) p) (dynamic (boardArena b n) t k p) limit T F 0 (0, 0)
   dynamic-going t l =
-      going-start _ _ limit T F (0, 0) (fit-inside b n 0 p T F l h)
-      (ap (λ (j : ℕ). dynamic (boardChain b n) t j p) (one-less k some-left) ∙ dynamic-line b n p T F l h t (k - 1))
+      going-start _ _ limit T F (0, 0) (fit-inside b n 0 p T F one l h)
+      (ap (λ (j : ℕ). dynamic (boardArena b n) t j p) (one-less k some-left) ∙ dynamic-line b n p T F one l h t (k - 1))
 
 -- the loop of advice no longer knows who is absent: it goes by the line that it starts with
-pub advice-total : (b : List ℕ) (n k : ℕ) (p : List ℕ) (T F : ℕ) → (k ≡ 0 → ⊥) → n ≤ width → (t A : ℕ) → InLine b n A p T F
+pub advice-total : (b : List ℕ) (n k : ℕ) (p : Filled) (T F : ℕ) → (k ≡ 0 → ⊥) → n ≤ width → OneReady b → (t A : ℕ) → InLine b n A p T F
     → scan (adviceHunt b n t (k - 1) p) F (members width T) tt ≡ adviceOn b n t k A p
-advice-total b n k p T F f h t A l =
+advice-total b n k p T F f h one t A l =
     let e : suc (k - 1) ≡ k = omega arith in
-    sym (advice-line b n A p T F l h t (k - 1)) ∙ ap (λ (j : ℕ). adviceOn b n t j A p) e
+    sym (advice-line b n A p T F one l h t (k - 1)) ∙ ap (λ (j : ℕ). adviceOn b n t j A p) e
 
-pub line-going : {A R S : Type 0} (h : Hunt A R S) (b : List ℕ) (n Z limit T F : ℕ) (p : List ℕ) (s : S) → n ≤ width → InLine b n Z p T F
+pub line-going : {A R S : Type 0} (h : Hunt A R S) (b : List ℕ) (n Z limit T F : ℕ) (p : Filled) (s : S) → n ≤ width → OneReady b → InLine b n Z p T F
     → Going h (scan h F (members width T) s) limit T F 0 s
-line-going h b n Z limit T F p s k l = going-start h _ limit T F s (fit-inside b n Z p T F l k) refl
+line-going h b n Z limit T F p s k one l = going-start h _ limit T F s (fit-inside b n Z p T F one l k) refl
 
-pub desk-going : (b : List ℕ) (n k : ℕ) (p : List ℕ) (limit T F : ℕ) → n ≤ width → (t A : ℕ) → InLine b n A p T F
+pub desk-going : (b : List ℕ) (n k : ℕ) (p : Filled) (limit T F : ℕ) → n ≤ width → OneReady b → (t A : ℕ) → InLine b n A p T F
     → Going (deskHunt b n t A k p) (beatsOn b n t k p A) limit T F 0 tt
 unfolding beatsOn
-desk-going b n k p limit T F h t A l = going-start _ _ limit T F tt (fit-inside b n A p T F l h) (turn-line b n A p T F l h (decremental (boardChain b n) t k A))
+desk-going b n k p limit T F h one t A l = going-start _ _ limit T F tt (fit-inside b n A p T F one l h) (turn-line b n A p T F one l h (decremental (boardArena b n) t k A))
 
-pub pass-going : (b : List ℕ) (n k : ℕ) (p : List ℕ) (limit T F : ℕ) → n ≤ width → (t : ℕ) → InLine b n 0 p T F
+pub pass-going : (b : List ℕ) (n k : ℕ) (p : Filled) (limit T F : ℕ) → n ≤ width → OneReady b → (t : ℕ) → InLine b n 0 p T F
     → Going (passHunt b n t k p) (passOn b n t k p) limit T F 0 tt
 unfolding passOn
-pass-going b n k p limit T F h t l = going-start _ _ limit T F tt (fit-inside b n 0 p T F l h) (turn-line b n 0 p T F l h (oneShot (boardChain b n) t k))
+pass-going b n k p limit T F h one t l = going-start _ _ limit T F tt (fit-inside b n 0 p T F one l h) (turn-line b n 0 p T F one l h (oneShot (boardArena b n) t k))
 
 -- a turn of the away side, and the static walk, go over sets
-pub away-going : (b : List ℕ) (n t k c limit : ℕ) (p : List ℕ) → (k ≡ 0 → ⊥) → c < 2 ^ n → size n c ≤ t
-    → Sweep (beatsOn b n t (k - 1) p) (decremental (boardChain b n) t k c p) n t c limit c 0
+pub away-going : (b : List ℕ) (n t k c limit : ℕ) (p : Filled) → (k ≡ 0 → ⊥) → c < 2 ^ n → size n c ≤ t
+    → Sweep (beatsOn b n t (k - 1) p) (decremental (boardArena b n) t k c p) n t c limit c 0
 unfolding decremental beatsOn
 away-going b n t k c limit p f l h =
     let e : k ≡ suc (k - 1) = omega arith in
-    sweep-start _ _ n t c limit l h (ap (λ (j : ℕ). decremental (boardChain b n) t j c p) e)
+    sweep-start _ _ n t c limit l h (ap (λ (j : ℕ). decremental (boardArena b n) t j c p) e)
 
-pub static-going : (b : List ℕ) (n t k limit : ℕ) (p : List ℕ) → 0 < 2 ^ n → size n 0 ≤ t
-    → Sweep (λ A. ifNone A (plan (boardChain b n) A k p)) (static (boardChain b n) t k p) n t 0 limit 0 0
+pub static-going : (b : List ℕ) (n t k limit : ℕ) (p : Filled) → 0 < 2 ^ n → size n 0 ≤ t
+    → Sweep (λ A. ifNone A (plan (boardArena b n) A k p)) (static (boardArena b n) t k p) n t 0 limit 0 0
 unfolding static
 static-going b n t k limit p l h = sweep-start _ _ n t 0 limit l h refl
 
 -- a turn of the away side that has not struck: the pass, or else the strikes
-pub oneShot-turn : (b : List ℕ) (n t k : ℕ) (p : List ℕ) → (k ≡ 0 → ⊥)
-    → orElse (passOn b n t (k - 1) p .got) (passOn b n t (k - 1) p .trials) (λ _. static (boardChain b n) t k p) ≡ oneShot (boardChain b n) t k p
+pub oneShot-turn : (b : List ℕ) (n t k : ℕ) (p : Filled) → (k ≡ 0 → ⊥)
+    → orElse (passOn b n t (k - 1) p .got) (passOn b n t (k - 1) p .trials) (λ _. static (boardArena b n) t k p) ≡ oneShot (boardArena b n) t k p
 unfolding oneShot passOn
 oneShot-turn b n t k p f =
     let e : k ≡ suc (k - 1) = omega arith in
     let e′ : suc (k - 1) ≡ k = omega arith in
-    ap (λ (j : ℕ). orElse (passOn b n t (k - 1) p .got) (passOn b n t (k - 1) p .trials) (λ _. static (boardChain b n) t j p)) e
-    ∙ ap (λ (j : ℕ). oneShot (boardChain b n) t j p) e′
+    ap (λ (j : ℕ). orElse (passOn b n t (k - 1) p .got) (passOn b n t (k - 1) p .trials) (λ _. static (boardArena b n) t j p)) e
+    ∙ ap (λ (j : ℕ). oneShot (boardArena b n) t j p) e′
 
 -- ---- the next set, as the code answers it
 

@@ -5,10 +5,8 @@ use Prim.Native.Nat.{ℕ}
 use Rattle.sets.specs.Stored.{number}
 use Rattle.games.specs.Walks.{Search, ifNone, unbeaten, desk, decremental, oneShot, advice}
 use Rattle.games.specs.Limit.{Answer, stopped, whole}
-use Rattle.cases.specs.Chain.{personOf}
-use Rattle.cases.specs.Positions.{persons}
-use Rattle.cases.specs.declared.Position.{Position}
-use Rattle.boards.specs.Board.{boardChain}
+use Rattle.cases.specs.declared.Filled.{Filled}
+use Rattle.boards.specs.Arena.{Done, boardArena}
 use Rattle.walks.specs.declared.PlanEnd.{PlanEnd}
 use Rattle.walks.specs.declared.PlanEnd.the-variants as planEnd
 use Rattle.walks.specs.declared.Planned.{Planned}
@@ -28,13 +26,13 @@ found b c = whole (record { got = some b; trials = c })
 abbrev pub nothing : {B : Type 0} → ℕ → Answer (Option B)
 nothing c = whole (record { got = none; trials = c })
 
-abbrev pub planEnded : ℕ → List ℕ → PlanEnd → Answer (Option (List ℕ))
+abbrev pub planEnded : ℕ → Filled → PlanEnd → Answer (Option Filled)
 planEnded l q planEnd.Limit = stopped l
 planEnded l q (planEnd.No c) = nothing c
 planEnded l q (planEnd.Yes c) = found q c
 
-abbrev pub planOutcome : ℕ → Planned → Answer (Option (List ℕ))
-planOutcome l r = planEnded l (persons (r .plan)) (r .end)
+abbrev pub planOutcome : ℕ → Planned → Answer (Option Filled)
+planOutcome l r = planEnded l (r .plan) (r .end)
 
 abbrev pub verdictOutcome : ℕ → Verdict → Answer (Option ℕ)
 verdictOutcome l verdict.Limit = stopped l
@@ -54,15 +52,19 @@ turnOutcome l A (turn.Holds c) = nothing c
 
 -- ---- Walks on a board b for n people
 
+abbrev pub named : Option (ℕ × Done) → Option ℕ
+named none = none
+named (some a) = some (a .0)
+
 module _ (b : List ℕ) (n t : ℕ) where
   -- a turn of the desk in the decremental game with A away and k steps left after it: A where it beats the desk
-  unfoldable pub beatsOn : ℕ → List ℕ → ℕ → Search ℕ
-  beatsOn k p A = ifNone A (desk (boardChain b n) (λ q. unbeaten (decremental (boardChain b n) t k A q)) A p)
+  unfoldable pub beatsOn : ℕ → Filled → ℕ → Search ℕ
+  beatsOn k p A = ifNone A (desk (boardArena b n) (λ q. unbeaten (decremental (boardArena b n) t k A q)) A p)
 
   -- a turn of the desk in the one-shot game after a pass, with k steps left after it: nobody, where the pass beats the desk
-  unfoldable pub passOn : ℕ → List ℕ → Search ℕ
-  passOn k p = ifNone 0 (desk (boardChain b n) (λ q. unbeaten (oneShot (boardChain b n) t k q)) 0 p)
+  unfoldable pub passOn : ℕ → Filled → Search ℕ
+  passOn k p = ifNone 0 (desk (boardArena b n) (λ q. unbeaten (oneShot (boardArena b n) t k q)) 0 p)
 
-  -- advice names a person; the move is the same person
-  abbrev pub adviceOn : ℕ → ℕ → List ℕ → Search ℕ
-  adviceOn k A p = let w = advice (boardChain b n) t k A p in record { got = personOf (w .got); trials = w .trials }
+  -- advice names a person and a move; where one step is ready, the person says it all
+  abbrev pub adviceOn : ℕ → ℕ → Filled → Search ℕ
+  adviceOn k A p = let w = advice (boardArena b n) t k A p in record { got = named (w .got); trials = w .trials }

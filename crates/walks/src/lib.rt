@@ -5,25 +5,29 @@
 // straight to the next person worth a try, and counts those passed over, each a trial, without looking at them.
 mod strikes;
 
+use boards::PLACES;
 use boards::allowed;
 use boards::fits;
+use boards::ready;
+use cases::Case;
+use cases::Filled;
 use cases::Person;
-use cases::Position;
+use cases::Step;
 use sets::Lowest;
 use sets::Next;
 use sets::People;
+use sets::lowest_in;
 pub use strikes::one_shot_walk;
 ghost use mathlib.Core.Path.{_≡_};
 ghost use mathlib.Core.Bool.{Bool};
 ghost use Prim.Native.Nat.{ℕ, _+_, _-_, _^_, _≤_, _<_};
-ghost use Rattle.sets.specs.Sets.{after, common, difference, everybody, size};
+ghost use Rattle.sets.specs.Sets.{after, difference, size};
 ghost use Rattle.sets.specs.Stored.{width, number};
 ghost use Rattle.games.specs.Walks.{plan, static, decremental, dynamic, ifNone};
 ghost use Rattle.games.specs.Limit.{cut};
-ghost use Rattle.cases.specs.Positions.{persons};
-ghost use Rattle.boards.specs.Board.{allowedOn, fitsOn, boardChain};
+ghost use Rattle.boards.specs.Arena.{boardArena};
 ghost use Rattle.walks.specs.Outcomes.{planOutcome, verdictOutcome, advisedOutcome, turnOutcome, beatsOn, adviceOn};
-ghost use Rattle.walks.specs.Trying.{tryOutcome, tried, InLine};
+ghost use Rattle.walks.specs.Trying.{tryOutcome, tried, stepOn, OneReady, InLine};
 
 // How a search for a plan ended.
 pub enum PlanEnd {
@@ -35,7 +39,7 @@ pub enum PlanEnd {
 // Where the end is yes, `plan` is the plan.
 pub struct Planned {
     pub end: PlanEnd,
-    pub plan: Position,
+    pub plan: Filled,
 }
 
 // A verdict with its trials; a no shows a set.
@@ -72,14 +76,29 @@ enum Try {
     Person(Person, u32),
 }
 
-// The line at a position, with some people away.
-fn line_up(board: &[u32; 568], people: u8, absent: People, p: Position) -> Line
-    ensures { λ r. ⌜ InLine (now (board .entry)) people (number absent) (persons p) (number (r .tried)) (number (r .fit)) ⌝ }
+// The step that is ready, 32 where none is.
+fn next_step(board: &[u32; PLACES], p: Filled) -> Step
+    ensures { λ r. ⌜ r .0 ≡ stepOn (now (board .entry)) p ⌝ }
 {
-    let tried = allowed(board, p.len)
+    Step(lowest_in(ready(board, p) as u32))
+}
+
+// The line at a position, for the step that is ready, with some people away. Where no step is ready nobody is in line.
+fn line_up(board: &[u32; PLACES], people: u8, absent: People, p: Filled, step: Step) -> Line
+    requires { ⌜ step .0 ≡ stepOn (now board) p ⌝ }
+    ensures { λ r. ⌜ InLine (now (board .entry)) people (number absent) p (number (r .tried)) (number (r .fit)) ⌝ }
+{
+    let at = step.0;
+    if Case::STEPS <= (at as usize) {
+        return Line {
+            tried: People::none(),
+            fit: People::none(),
+        };
+    }
+    let tried = allowed(board, step)
         .difference(absent)
         .common(People::everybody(people));
-    let fit = tried.common(fits(board, p));
+    let fit = tried.common(fits(board, p, step));
     Line {
         tried: tried,
         fit: fit,
@@ -119,17 +138,27 @@ fn behind(line: Line, v: Person) -> Line
     }
 }
 
+// The line without some people.
+fn without(line: Line, away: People) -> Line
+    ensures { λ r. ⌜ (number (r .tried) ≡ difference width (number (line .tried)) (number away)) × (number (r .fit) ≡ difference width (number (line .fit)) (number away)) ⌝ }
+{
+    Line {
+        tried: line.tried.difference(away),
+        fit: line.fit.difference(away),
+    }
+}
+
 // The first plan from a position, with some people away throughout.
 pub fn plan_walk(
-    board: &[u32; 568],
+    board: &[u32; PLACES],
     people: u8,
     absent: People,
-    p: Position,
+    p: Filled,
     left: u8,
     limit: u32,
 ) -> Planned
-    requires { ⌜ (p .len + left ≤ 8) × (people ≤ 32) ⌝ }
-    ensures { λ r. ⌜ planOutcome limit r ≡ cut limit (plan (boardChain (now (board .entry)) people) (number absent) left (persons p)) ⌝ }
+    requires { ⌜ (people ≤ 32) × OneReady (now board) ⌝ }
+    ensures { λ r. ⌜ planOutcome limit r ≡ cut limit (plan (boardArena (now (board .entry)) people) (number absent) left p) ⌝ }
 {
     if left == 0 {
         return Planned {
@@ -137,7 +166,8 @@ pub fn plan_walk(
             plan: p,
         };
     }
-    let mut line = line_up(board, people, absent, p);
+    let step = next_step(board, p);
+    let mut line = line_up(board, people, absent, p, step);
     let mut used: u32 = 0;
     loop {
         match next_try(line, used, limit) {
@@ -154,7 +184,14 @@ pub fn plan_walk(
                 };
             }
             Try::Person(v, trials) => {
-                let sub = plan_walk(board, people, absent, p.placed(v), left - 1, limit - trials);
+                let sub = plan_walk(
+                    board,
+                    people,
+                    absent,
+                    p.placed(step, v),
+                    left - 1,
+                    limit - trials,
+                );
                 let end = sub.end;
                 match end {
                     PlanEnd::Limit => {
@@ -182,20 +219,21 @@ pub fn plan_walk(
 
 // Are more than t people good to place next? If not, who is.
 pub fn dynamic_walk(
-    board: &[u32; 568],
+    board: &[u32; PLACES],
     people: u8,
     t: u32,
-    p: Position,
+    p: Filled,
     left: u8,
     limit: u32,
 ) -> Verdict
-    requires { ⌜ (p .len + left ≤ 8) × (people ≤ 32) ⌝ }
-    ensures { λ r. ⌜ verdictOutcome limit r ≡ cut limit (dynamic (boardChain (now (board .entry)) people) t left (persons p)) ⌝ }
+    requires { ⌜ (people ≤ 32) × OneReady (now board) ⌝ }
+    ensures { λ r. ⌜ verdictOutcome limit r ≡ cut limit (dynamic (boardArena (now (board .entry)) people) t left p) ⌝ }
 {
     if left == 0 {
         return Verdict::Yes(0);
     }
-    let mut line = line_up(board, people, People::none(), p);
+    let step = next_step(board, p);
+    let mut line = line_up(board, people, People::none(), p, step);
     let mut shown = People::none();
     let mut found: u32 = 0;
     let mut used: u32 = 0;
@@ -208,7 +246,14 @@ pub fn dynamic_walk(
                 return Verdict::No(shown, trials);
             }
             Try::Person(v, trials) => {
-                let sub = dynamic_walk(board, people, t, p.placed(v), left - 1, limit - trials);
+                let sub = dynamic_walk(
+                    board,
+                    people,
+                    t,
+                    p.placed(step, v),
+                    left - 1,
+                    limit - trials,
+                );
                 match sub {
                     Verdict::Limit => {
                         return Verdict::Limit;
@@ -234,21 +279,22 @@ pub fn dynamic_walk(
 
 // The lowest present person whose placing leaves a good position.
 pub fn advice_walk(
-    board: &[u32; 568],
+    board: &[u32; PLACES],
     people: u8,
     t: u32,
     absent: People,
-    p: Position,
+    p: Filled,
     left: u8,
     limit: u32,
 ) -> Advised
-    requires { ⌜ (p .len + left ≤ 8) × (people ≤ 32) ⌝ }
-    ensures { λ r. ⌜ advisedOutcome limit r ≡ cut limit (adviceOn (now (board .entry)) people t left (number absent) (persons p)) ⌝ }
+    requires { ⌜ (people ≤ 32) × OneReady (now board) ⌝ }
+    ensures { λ r. ⌜ advisedOutcome limit r ≡ cut limit (adviceOn (now (board .entry)) people t left (number absent) p) ⌝ }
 {
     if left == 0 {
         return Advised::Nobody(0);
     }
-    let mut line = line_up(board, people, absent, p);
+    let step = next_step(board, p);
+    let mut line = line_up(board, people, absent, p, step);
     let mut used: u32 = 0;
     loop {
         match next_try(line, used, limit) {
@@ -259,7 +305,14 @@ pub fn advice_walk(
                 return Advised::Nobody(trials);
             }
             Try::Person(v, trials) => {
-                match dynamic_walk(board, people, t, p.placed(v), left - 1, limit - trials) {
+                match dynamic_walk(
+                    board,
+                    people,
+                    t,
+                    p.placed(step, v),
+                    left - 1,
+                    limit - trials,
+                ) {
                     Verdict::Limit => {
                         return Advised::Limit;
                     }
@@ -276,20 +329,23 @@ pub fn advice_walk(
     }
 }
 
-// A turn of the desk with some people away: it stops at the first person who leaves a position from which the away side cannot win.
+// A turn of the desk with some people away, who are taken off the position's line: it stops at the first person who leaves a position from which the
+// away side cannot win.
 fn desk_turn(
-    board: &[u32; 568],
+    board: &[u32; PLACES],
     people: u8,
     t: u32,
     away: People,
-    p: Position,
+    p: Filled,
+    step: Step,
+    whole: Line,
     left: u8,
     limit: u32,
 ) -> Turn
-    requires { ⌜ (0 < left) × (p .len + left ≤ 8) × (people ≤ 32) × (number away < 2 ^ people) × (size people (number away) ≤ t) ⌝ }
-    ensures { λ r. ⌜ turnOutcome limit (number away) r ≡ cut limit (beatsOn (now (board .entry)) people t (left - 1) (persons p) (number away)) ⌝ }
+    requires { ⌜ (0 < left) × (people ≤ 32) × OneReady (now board) × (number away < 2 ^ people) × (size people (number away) ≤ t) × (step .0 ≡ stepOn (now board) p) × InLine (now board) people 0 p (number (whole .tried)) (number (whole .fit)) ⌝ }
+    ensures { λ r. ⌜ turnOutcome limit (number away) r ≡ cut limit (beatsOn (now (board .entry)) people t (left - 1) p (number away)) ⌝ }
 {
-    let mut line = line_up(board, people, away, p);
+    let mut line = without(whole, away);
     let mut used: u32 = 0;
     loop {
         match next_try(line, used, limit) {
@@ -305,7 +361,7 @@ fn desk_turn(
                     people,
                     t,
                     away,
-                    p.placed(v),
+                    p.placed(step, v),
                     left - 1,
                     limit - trials,
                 ) {
@@ -325,26 +381,29 @@ fn desk_turn(
     }
 }
 
-// A turn of the away side: it goes over the sets of at most t people that contain those away, and stops at the first that beats the desk.
+// A turn of the away side: it goes over the sets of at most t people that contain those away, and stops at the first that beats the desk. The position
+// is lined up once for all of them.
 pub fn away_turn(
-    board: &[u32; 568],
+    board: &[u32; PLACES],
     people: u8,
     t: u32,
     away: People,
-    p: Position,
+    p: Filled,
     left: u8,
     limit: u32,
 ) -> Verdict
-    requires { ⌜ (p .len + left ≤ 8) × (people ≤ 32) × (number away < 2 ^ people) × (size people (number away) ≤ t) ⌝ }
-    ensures { λ r. ⌜ verdictOutcome limit r ≡ cut limit (decremental (boardChain (now (board .entry)) people) t left (number away) (persons p)) ⌝ }
+    requires { ⌜ (people ≤ 32) × OneReady (now board) × (number away < 2 ^ people) × (size people (number away) ≤ t) ⌝ }
+    ensures { λ r. ⌜ verdictOutcome limit r ≡ cut limit (decremental (boardArena (now (board .entry)) people) t left (number away) p) ⌝ }
 {
     if left == 0 {
         return Verdict::Yes(0);
     }
+    let step = next_step(board, p);
+    let whole = line_up(board, people, People::none(), p, step);
     let mut gone = away;
     let mut used: u32 = 0;
     loop {
-        match desk_turn(board, people, t, gone, p, left, limit - used) {
+        match desk_turn(board, people, t, gone, p, step, whole, left, limit - used) {
             Turn::Limit => {
                 return Verdict::Limit;
             }
@@ -368,15 +427,15 @@ pub fn away_turn(
 
 // Is there a plan without some people? A turn of the static walk.
 fn without_plan(
-    board: &[u32; 568],
+    board: &[u32; PLACES],
     people: u8,
     away: People,
-    p: Position,
+    p: Filled,
     left: u8,
     limit: u32,
 ) -> Turn
-    requires { ⌜ (p .len + left ≤ 8) × (people ≤ 32) ⌝ }
-    ensures { λ r. ⌜ turnOutcome limit (number away) r ≡ cut limit (ifNone (number away) (plan (boardChain (now (board .entry)) people) (number away) left (persons p))) ⌝ }
+    requires { ⌜ (people ≤ 32) × OneReady (now board) ⌝ }
+    ensures { λ r. ⌜ turnOutcome limit (number away) r ≡ cut limit (ifNone (number away) (plan (boardArena (now (board .entry)) people) (number away) left p)) ⌝ }
 {
     let walked = plan_walk(board, people, away, p, left, limit);
     let end = walked.end;
@@ -389,15 +448,15 @@ fn without_plan(
 
 // The sets of at most t people, a plan walk each; it stops at the first without a plan. With no step left there is nothing to walk.
 pub fn static_walk(
-    board: &[u32; 568],
+    board: &[u32; PLACES],
     people: u8,
     t: u32,
-    p: Position,
+    p: Filled,
     left: u8,
     limit: u32,
 ) -> Verdict
-    requires { ⌜ (p .len + left ≤ 8) × (people ≤ 32) ⌝ }
-    ensures { λ r. ⌜ verdictOutcome limit r ≡ cut limit (static (boardChain (now (board .entry)) people) t left (persons p)) ⌝ }
+    requires { ⌜ (people ≤ 32) × OneReady (now board) ⌝ }
+    ensures { λ r. ⌜ verdictOutcome limit r ≡ cut limit (static (boardArena (now (board .entry)) people) t left p) ⌝ }
 {
     if left == 0 {
         return Verdict::Yes(0);

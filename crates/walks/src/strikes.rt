@@ -4,29 +4,31 @@ use crate::Turn;
 use crate::Verdict;
 use crate::behind;
 use crate::line_up;
+use crate::next_step;
 use crate::next_try;
 use crate::static_walk;
-use cases::Position;
+use boards::PLACES;
+use cases::Filled;
 use sets::People;
 ghost use mathlib.Core.Path.{_≡_};
 ghost use Prim.Native.Nat.{_+_, _-_, _≤_, _<_};
 ghost use Rattle.games.specs.Walks.{plus, static, oneShot};
 ghost use Rattle.games.specs.Limit.{cut};
-ghost use Rattle.cases.specs.Positions.{persons};
-ghost use Rattle.boards.specs.Board.{boardChain};
+ghost use Rattle.boards.specs.Arena.{boardArena};
 ghost use Rattle.walks.specs.Outcomes.{verdictOutcome, turnOutcome, passOn};
+ghost use Rattle.walks.specs.Trying.{OneReady};
 
 // A turn of the away side that has not struck: the pass, then the strikes; it stops at the first that beats the desk. A pass is shown as nobody.
 pub fn one_shot_walk(
-    board: &[u32; 568],
+    board: &[u32; PLACES],
     people: u8,
     t: u32,
-    p: Position,
+    p: Filled,
     left: u8,
     limit: u32,
 ) -> Verdict
-    requires { ⌜ (p .len + left ≤ 8) × (people ≤ 32) ⌝ }
-    ensures { λ r. ⌜ verdictOutcome limit r ≡ cut limit (oneShot (boardChain (now (board .entry)) people) t left (persons p)) ⌝ }
+    requires { ⌜ (people ≤ 32) × OneReady (now board) ⌝ }
+    ensures { λ r. ⌜ verdictOutcome limit r ≡ cut limit (oneShot (boardArena (now (board .entry)) people) t left p) ⌝ }
 {
     if left == 0 {
         return Verdict::Yes(0);
@@ -39,11 +41,12 @@ pub fn one_shot_walk(
 }
 
 // A turn of the desk after a pass, with everybody present: it stops at the first person who leaves a position from which the away side cannot win.
-fn pass_turn(board: &[u32; 568], people: u8, t: u32, p: Position, left: u8, limit: u32) -> Turn
-    requires { ⌜ (0 < left) × (p .len + left ≤ 8) × (people ≤ 32) ⌝ }
-    ensures { λ r. ⌜ turnOutcome limit 0 r ≡ cut limit (passOn (now (board .entry)) people t (left - 1) (persons p)) ⌝ }
+fn pass_turn(board: &[u32; PLACES], people: u8, t: u32, p: Filled, left: u8, limit: u32) -> Turn
+    requires { ⌜ (0 < left) × (people ≤ 32) × OneReady (now board) ⌝ }
+    ensures { λ r. ⌜ turnOutcome limit 0 r ≡ cut limit (passOn (now (board .entry)) people t (left - 1) p) ⌝ }
 {
-    let mut line = line_up(board, people, People::none(), p);
+    let step = next_step(board, p);
+    let mut line = line_up(board, people, People::none(), p, step);
     let mut used: u32 = 0;
     loop {
         match next_try(line, used, limit) {
@@ -54,7 +57,14 @@ fn pass_turn(board: &[u32; 568], people: u8, t: u32, p: Position, left: u8, limi
                 return Turn::Beaten(trials);
             }
             Try::Person(v, trials) => {
-                match one_shot_walk(board, people, t, p.placed(v), left - 1, limit - trials) {
+                match one_shot_walk(
+                    board,
+                    people,
+                    t,
+                    p.placed(step, v),
+                    left - 1,
+                    limit - trials,
+                ) {
                     Verdict::Limit => {
                         return Turn::Limit;
                     }
@@ -73,16 +83,16 @@ fn pass_turn(board: &[u32; 568], people: u8, t: u32, p: Position, left: u8, limi
 
 // The strikes, where the pass has used some trials: whoever is struck stays away to the end, so they are the static walk from here.
 fn then_strikes(
-    board: &[u32; 568],
+    board: &[u32; PLACES],
     people: u8,
     t: u32,
-    p: Position,
+    p: Filled,
     left: u8,
     used: u32,
     limit: u32,
 ) -> Verdict
-    requires { ⌜ (used ≤ limit) × (p .len + left ≤ 8) × (people ≤ 32) ⌝ }
-    ensures { λ r. ⌜ verdictOutcome limit r ≡ cut limit (plus used (static (boardChain (now (board .entry)) people) t left (persons p))) ⌝ }
+    requires { ⌜ (used ≤ limit) × (people ≤ 32) × OneReady (now board) ⌝ }
+    ensures { λ r. ⌜ verdictOutcome limit r ≡ cut limit (plus used (static (boardArena (now (board .entry)) people) t left p)) ⌝ }
 {
     match static_walk(board, people, t, p, left, limit - used) {
         Verdict::Limit => Verdict::Limit,

@@ -7,22 +7,22 @@ use Prim.Native.Nat.{_-_}
 use Rattle.sets.specs.Sets.{size}
 use Rattle.sets.specs.Stored.{width, number}
 use Rattle.games.specs.Walks.{plan}
-use Rattle.cases.specs.Positions.{persons}
-use Rattle.boards.specs.Board.{boardChain}
+use Rattle.boards.specs.Arena.{boardArena}
 use Rattle.walks.specs.Outcomes.{planEnded}
 use Rattle.walks.specs.Trying.{tryOutcome}
 use Rattle.walks.proofs.Cuts.{ends}
 use Rattle.walks.proofs.Scans.{Going, try-limit, try-nobody, try-person, sub-limit, sub-within, sub-done, sub-on}
-use Rattle.walks.proofs.Turns.{room, placed-fits, placed-persons, planHunt, plan-full, plan-going}
+use Rattle.walks.proofs.Turns.{placed-is, planHunt, plan-full, plan-going}
 use Prim.Native.Nat.{ℕ, _<_}
 use borrow.Fn.Kinds.{In}
 use borrow.Fn.PlainCycle.{Measures, is, falls, and}
 use Rattle.walks.proofs.plan_walk.Reads as plan-walk
 use Rattle.walks.proofs.plan_walk.Kinds as plan-walk-kinds
 use Rattle.walks.proofs.+plan_walk.Lts-plan_walk as plan-walk-lts
-use Rattle.cases.proofs.Position.placed.Reads as placed-reads
+use Rattle.cases.proofs.Filled.placed.Reads as placed-reads
 use Rattle.walks.proofs.behind.Reads as behind-reads
 use Rattle.walks.proofs.line_up.Reads as line-up-reads
+use Rattle.walks.proofs.next_step.Reads as next-step-reads
 use Rattle.walks.proofs.next_try.Reads as next-try-reads
 use Rattle.walks.proofs.+plan_walk.{statement}
 use Rattle.walks.proofs.+plan_walk.Tie.{close}
@@ -38,25 +38,28 @@ plan-walk-below t =
     and 1 plan-walk-kinds.ps (falls 1 plan-walk-kinds.ps _<_ μ-plan-walk t) plan-walk.Pre
 
 abbrev plan-walk-Inv-loop : plan-walk-lts.InvT-loop
-plan-walk-Inv-loop board people absent p left limit line₀ used₀ line used =
-    Going (planHunt board people (number absent) (left - 1) (persons p)) (plan (boardChain board people) (number absent) left (persons p)) limit
+plan-walk-Inv-loop board people absent p left limit step line₀ used₀ line used =
+    Going (planHunt board people (number absent) (left - 1) p) (plan (boardArena board people) (number absent) left p) limit
     (number (line .tried)) (number (line .fit)) used tt
 
 abbrev plan-walk-μ-loop : plan-walk-lts.MeasureT-loop
-plan-walk-μ-loop board people absent p left limit line₀ used₀ line used = size width (number (line .fit))
+plan-walk-μ-loop board people absent p left limit step line₀ used₀ line used = size width (number (line .fit))
 
 -- what the calls of plan_walk ask and give
 abbrev plan-walk-calls : ℕ → plan-walk-lts.Claims
-plan-walk-calls t = (line-up-reads.Asked, line-up-reads.Learnt, next-try-reads.Asked, next-try-reads.Learnt, placed-reads.Asked, placed-reads.Learnt, plan-walk-below t, plan-walk.Post, behind-reads.Asked, behind-reads.Learnt)
+plan-walk-calls t = (next-step-reads.Asked, next-step-reads.Learnt, line-up-reads.Asked, line-up-reads.Learnt, next-try-reads.Asked, next-try-reads.Learnt, placed-reads.Asked, placed-reads.Learnt, plan-walk-below t, plan-walk.Post, behind-reads.Asked, behind-reads.Learnt)
 
 plan-walk-returns : (t : ℕ) → plan-walk-lts.Need-returns (plan-walk-calls t) (plan-walk-at t) plan-walk.Post plan-walk-Inv-loop plan-walk-μ-loop
 plan-walk-returns t c = ends _ _ (some _) 0 (plan-full _ _ _ (c .if1 .taken) _) (omega arith)
 
+plan-walk-next-step-requires : (t : ℕ) → plan-walk-lts.Need-next-step-requires (plan-walk-calls t) (plan-walk-at t) plan-walk.Post plan-walk-Inv-loop plan-walk-μ-loop
+plan-walk-next-step-requires t c κs = tt
+
 plan-walk-line-up-requires : (t : ℕ) → plan-walk-lts.Need-line-up-requires (plan-walk-calls t) (plan-walk-at t) plan-walk.Post plan-walk-Inv-loop plan-walk-μ-loop
-plan-walk-line-up-requires t c κs = tt
+plan-walk-line-up-requires t c κs = c .next-step .ensures
 
 plan-walk-loop-holds : (t : ℕ) → plan-walk-lts.Need-loop-holds (plan-walk-calls t) (plan-walk-at t) plan-walk.Post plan-walk-Inv-loop plan-walk-μ-loop
-plan-walk-loop-holds t c = plan-going _ _ _ _ _ _ _ (c .before .if1 .left) (c .before .before .pre .1 .1) _ (c .line-up .ensures)
+plan-walk-loop-holds t c = plan-going _ _ _ _ _ _ _ (c .before .before .if1 .left) (c .before .before .before .pre .1 .0) (c .before .before .before .pre .1 .1) _ (c .line-up .ensures)
 
 plan-walk-next-try-requires : (t : ℕ) → plan-walk-lts.Need-next-try-requires (plan-walk-calls t) (plan-walk-at t) plan-walk.Post plan-walk-Inv-loop plan-walk-μ-loop
 plan-walk-next-try-requires t c κs = c .loop .inv .enough
@@ -86,28 +89,28 @@ plan-walk-sub-plan-walk-2 : (t : ℕ) → plan-walk-lts.Need-sub-plan-walk-2 (pl
 plan-walk-sub-plan-walk-2 t c = omega (arith, (try-person (c .before .before .before .before .before .loop .inv) _ _ (sym (ap tryOutcome (c .before .before .v .given .1)) ∙ c .before .before .before .before .next-try .ensures)) .enough)
 
 plan-walk-plan-walk-requires : (t : ℕ) → plan-walk-lts.Need-plan-walk-requires (plan-walk-calls t) (plan-walk-at t) plan-walk.Post plan-walk-Inv-loop plan-walk-μ-loop
-plan-walk-plan-walk-requires t c κs = omega (arith, placed-fits _ _ _ _ (c .placed .ensures .1) (c .before .before .before .before .before .before .before .before .pre .1 .0) (c .before .before .before .before .before .before .before .if1 .left))
+plan-walk-plan-walk-requires t c κs = (omega arith, (c .before .before .before .before .before .before .before .before .before .pre .1 .0, c .before .before .before .before .before .before .before .before .before .pre .1 .1))
 
 plan-walk-enum-told-2 : (t : ℕ) → plan-walk-lts.Need-enum-told-2 (plan-walk-calls t) (plan-walk-at t) plan-walk.Post plan-walk-Inv-loop plan-walk-μ-loop
 plan-walk-enum-told-2 t c = search needs
 
 plan-walk-returns-4 : (t : ℕ) → plan-walk-lts.Need-returns-4 (plan-walk-calls t) (plan-walk-at t) plan-walk.Post plan-walk-Inv-loop plan-walk-μ-loop
-plan-walk-returns-4 t c = sub-limit (try-person (c .before .before .before .before .before .before .before .before .loop .inv) _ _ (sym (ap tryOutcome (c .before .before .before .before .before .v .given .1)) ∙ c .before .before .before .before .before .before .before .next-try .ensures)) (sym (ap (planEnded _ _) (c .enum-told2 .given .1)) ∙ (rw (placed-persons _ _ _ (c .before .before .before .placed .ensures .1) (room _ _ (c .before .before .before .before .before .before .before .before .before .before .before .pre .1 .0) (c .before .before .before .before .before .before .before .before .before .before .if1 .left))) at (c .before .before .plan-walk .ensures)))
+plan-walk-returns-4 t c = sub-limit (try-person (c .before .before .before .before .before .before .before .before .loop .inv) _ _ (sym (ap tryOutcome (c .before .before .before .before .before .v .given .1)) ∙ c .before .before .before .before .before .before .before .next-try .ensures)) (sym (ap (planEnded _ _) (c .enum-told2 .given .1)) ∙ (rw (placed-is _ _ _ _ _ (c .before .before .before .placed .ensures) (c .before .before .before .before .before .before .before .before .before .before .next-step .ensures)) at (c .before .before .plan-walk .ensures)))
 
 plan-walk-enum-known-end : (t : ℕ) → plan-walk-lts.Need-enum-known-end (plan-walk-calls t) (plan-walk-at t) plan-walk.Post plan-walk-Inv-loop plan-walk-μ-loop
 plan-walk-enum-known-end t c = search needs
 
-plan-walk-add-t26 : (t : ℕ) → plan-walk-lts.Need-add-t26 (plan-walk-calls t) (plan-walk-at t) plan-walk.Post plan-walk-Inv-loop plan-walk-μ-loop
-plan-walk-add-t26 t c = omega (arith, sub-within (try-person (c .before .before .before .before .before .before .before .before .before .before .loop .inv) _ _ (sym (ap tryOutcome (c .before .before .before .before .before .before .before .v .given .1)) ∙ c .before .before .before .before .before .before .before .before .before .next-try .ensures)) _ _ (sym (ap (planEnded _ _) (c .before .before .end .given .1)) ∙ (rw (placed-persons _ _ _ (c .before .before .before .before .before .placed .ensures .1) (room _ _ (c .before .before .before .before .before .before .before .before .before .before .before .before .before .pre .1 .0) (c .before .before .before .before .before .before .before .before .before .before .before .before .if1 .left))) at (c .before .before .before .before .plan-walk .ensures))))
+plan-walk-add-t27 : (t : ℕ) → plan-walk-lts.Need-add-t27 (plan-walk-calls t) (plan-walk-at t) plan-walk.Post plan-walk-Inv-loop plan-walk-μ-loop
+plan-walk-add-t27 t c = omega (arith, c .before .before .before .before .before .before .before .before .before .before .before .before .before .before .fits .limit .fits, sub-within (try-person (c .before .before .before .before .before .before .before .before .before .before .loop .inv) _ _ (sym (ap tryOutcome (c .before .before .before .before .before .before .before .v .given .1)) ∙ c .before .before .before .before .before .before .before .before .before .next-try .ensures)) _ _ (sym (ap (planEnded _ _) (c .before .before .end .given .1)) ∙ (rw (placed-is _ _ _ _ _ (c .before .before .before .before .before .placed .ensures) (c .before .before .before .before .before .before .before .before .before .before .before .before .next-step .ensures)) at (c .before .before .before .before .plan-walk .ensures))))
 
 plan-walk-returns-5 : (t : ℕ) → plan-walk-lts.Need-returns-5 (plan-walk-calls t) (plan-walk-at t) plan-walk.Post plan-walk-Inv-loop plan-walk-μ-loop
-plan-walk-returns-5 t c = sub-done (try-person (c .before .before .before .before .before .before .before .before .before .before .loop .inv) _ _ (sym (ap tryOutcome (c .before .before .before .before .before .before .before .v .given .1)) ∙ c .before .before .before .before .before .before .before .before .before .next-try .ensures)) _ _ (sym (ap (planEnded _ _) (c .before .before .end .given .1)) ∙ (rw (placed-persons _ _ _ (c .before .before .before .before .before .placed .ensures .1) (room _ _ (c .before .before .before .before .before .before .before .before .before .before .before .before .before .pre .1 .0) (c .before .before .before .before .before .before .before .before .before .before .before .before .if1 .left))) at (c .before .before .before .before .plan-walk .ensures))) _ refl
+plan-walk-returns-5 t c = sub-done (try-person (c .before .before .before .before .before .before .before .before .before .before .loop .inv) _ _ (sym (ap tryOutcome (c .before .before .before .before .before .before .before .v .given .1)) ∙ c .before .before .before .before .before .before .before .before .before .next-try .ensures)) _ _ (sym (ap (planEnded _ _) (c .before .before .end .given .1)) ∙ (rw (placed-is _ _ _ _ _ (c .before .before .before .before .before .placed .ensures) (c .before .before .before .before .before .before .before .before .before .before .before .before .next-step .ensures)) at (c .before .before .before .before .plan-walk .ensures))) _ refl
 
 plan-walk-enum-known-end-2 : (t : ℕ) → plan-walk-lts.Need-enum-known-end-2 (plan-walk-calls t) (plan-walk-at t) plan-walk.Post plan-walk-Inv-loop plan-walk-μ-loop
 plan-walk-enum-known-end-2 t c = search needs
 
 plan-walk-add-used : (t : ℕ) → plan-walk-lts.Need-add-used (plan-walk-calls t) (plan-walk-at t) plan-walk.Post plan-walk-Inv-loop plan-walk-μ-loop
-plan-walk-add-used t c = omega (arith, sub-within (try-person (c .before .before .before .before .before .before .before .before .before .loop .inv) _ _ (sym (ap tryOutcome (c .before .before .before .before .before .before .v .given .1)) ∙ c .before .before .before .before .before .before .before .before .next-try .ensures)) _ _ (sym (ap (planEnded _ _) (c .before .end2 .given .1)) ∙ (rw (placed-persons _ _ _ (c .before .before .before .before .placed .ensures .1) (room _ _ (c .before .before .before .before .before .before .before .before .before .before .before .before .pre .1 .0) (c .before .before .before .before .before .before .before .before .before .before .before .if1 .left))) at (c .before .before .before .plan-walk .ensures))))
+plan-walk-add-used t c = omega (arith, c .before .before .before .before .before .before .before .before .before .before .before .before .before .fits .limit .fits, sub-within (try-person (c .before .before .before .before .before .before .before .before .before .loop .inv) _ _ (sym (ap tryOutcome (c .before .before .before .before .before .before .v .given .1)) ∙ c .before .before .before .before .before .before .before .before .next-try .ensures)) _ _ (sym (ap (planEnded _ _) (c .before .end2 .given .1)) ∙ (rw (placed-is _ _ _ _ _ (c .before .before .before .before .placed .ensures) (c .before .before .before .before .before .before .before .before .before .before .before .next-step .ensures)) at (c .before .before .before .plan-walk .ensures))))
 
 plan-walk-behind-requires : (t : ℕ) → plan-walk-lts.Need-behind-requires (plan-walk-calls t) (plan-walk-at t) plan-walk.Post plan-walk-Inv-loop plan-walk-μ-loop
 plan-walk-behind-requires t c κs = tt
@@ -116,7 +119,7 @@ plan-walk-loop-less : (t : ℕ) → plan-walk-lts.Need-loop-less (plan-walk-call
 plan-walk-loop-less t c = rw (c .behind .ensures .1) ((try-person (c .before .before .before .before .before .before .before .before .before .before .loop .inv) _ _ (sym (ap tryOutcome (c .before .before .before .before .before .before .before .v .given .1)) ∙ c .before .before .before .before .before .before .before .before .before .next-try .ensures)) .fewer)
 
 plan-walk-loop-again : (t : ℕ) → plan-walk-lts.Need-loop-again (plan-walk-calls t) (plan-walk-at t) plan-walk.Post plan-walk-Inv-loop plan-walk-μ-loop
-plan-walk-loop-again t c = rw (c .behind .ensures .0, c .behind .ensures .1) (sub-on (try-person (c .before .before .before .before .before .before .before .before .before .before .loop .inv) _ _ (sym (ap tryOutcome (c .before .before .before .before .before .before .before .v .given .1)) ∙ c .before .before .before .before .before .before .before .before .before .next-try .ensures)) _ _ (sym (ap (planEnded _ _) (c .before .before .end2 .given .1)) ∙ (rw (placed-persons _ _ _ (c .before .before .before .before .before .placed .ensures .1) (room _ _ (c .before .before .before .before .before .before .before .before .before .before .before .before .before .pre .1 .0) (c .before .before .before .before .before .before .before .before .before .before .before .before .if1 .left))) at (c .before .before .before .before .plan-walk .ensures))) _ refl)
+plan-walk-loop-again t c = rw (c .behind .ensures .0, c .behind .ensures .1) (sub-on (try-person (c .before .before .before .before .before .before .before .before .before .before .loop .inv) _ _ (sym (ap tryOutcome (c .before .before .before .before .before .before .before .v .given .1)) ∙ c .before .before .before .before .before .before .before .before .before .next-try .ensures)) _ _ (sym (ap (planEnded _ _) (c .before .before .end2 .given .1)) ∙ (rw (placed-is _ _ _ _ _ (c .before .before .before .before .before .placed .ensures) (c .before .before .before .before .before .before .before .before .before .before .before .before .next-step .ensures)) at (c .before .before .before .before .plan-walk .ensures))) _ refl)
 
 pub +plan-walk-spec : {M : Type 1} → statement M
 +plan-walk-spec = close μ-plan-walk λ t. plan-walk-lts.spec (plan-walk-calls t)
@@ -125,6 +128,7 @@ pub +plan-walk-spec : {M : Type 1} → statement M
     plan-walk-Inv-loop
     plan-walk-μ-loop
     (plan-walk-returns t)
+    (plan-walk-next-step-requires t)
     (plan-walk-line-up-requires t)
     (plan-walk-loop-holds t)
     (plan-walk-next-try-requires t)
@@ -140,7 +144,7 @@ pub +plan-walk-spec : {M : Type 1} → statement M
     (plan-walk-enum-told-2 t)
     (plan-walk-returns-4 t)
     (plan-walk-enum-known-end t)
-    (plan-walk-add-t26 t)
+    (plan-walk-add-t27 t)
     (plan-walk-returns-5 t)
     (plan-walk-enum-known-end-2 t)
     (plan-walk-add-used t)

@@ -1,15 +1,21 @@
-use Rattle.cases.proofs.Positions.{persons-length}
-use Rattle.walks.proofs.Lines.{line-is}
+use native.Mathlib.Omega.{arith}
+use Rattle.walks.proofs.Lines.{line-is, line-none}
+use Rattle.walks.proofs.Turns.{nobody-shown}
 use borrow.Author.Needs.{needs}
 use Rattle.walks.proofs.line_up.Statement.{statement}
 use Rattle.walks.proofs.line_up.Tie as tie
-use Rattle.walks.proofs.line_up.Reads as reads
-use Rattle.walks.proofs.line_up.Lts as lts
-use Rattle.boards.proofs.allowed.Reads as allowed-reads
-use Rattle.boards.proofs.fits.Reads as fits-reads
-use Rattle.sets.proofs.People.common.Reads as common-reads
-use Rattle.sets.proofs.People.difference.Reads as difference-reads
-use Rattle.sets.proofs.People.everybody.Reads as everybody-reads
+
+cast-if1 : tie.Need-cast-if1
+cast-if1 c = search needs
+
+none-requires : tie.Need-none-requires
+none-requires c κs = search needs
+
+none-requires-2 : tie.Need-none-requires-2
+none-requires-2 c κs = search needs
+
+returns : tie.Need-returns
+returns c = line-none _ _ _ _ _ (c .before .before .before .pre) _ _ (c .before .before .if1 .taken) (nobody-shown (c .before .none .ensures)) (nobody-shown (c .none2 .ensures))
 
 allowed-requires : tie.Need-allowed-requires
 allowed-requires c κs = search needs
@@ -29,17 +35,24 @@ fits-requires c κs = search needs
 common-requires-2 : tie.Need-common-requires-2
 common-requires-2 c κs = search needs
 
-returns : tie.Need-returns
-returns c = line-is _ _ _ _ _ _ _ _ _ _ _ (persons-length _) (c .before .before .before .before .before .allowed .ensures) (c .before .before .before .before .difference .ensures) (c .before .before .before .everybody .ensures) (c .before .before .common .ensures) (c .before .fits2 .ensures) (c .common2 .ensures)
+returns-2 : tie.Need-returns-2
+returns-2 c =
+    line-is _ _ _ _ _ (c .before .before .before .before .before .before .before .pre) _ _ _ _ _ _ (omega arith)
+    (c .before .before .before .before .before .allowed .ensures) (c .before .before .before .before .difference .ensures) (c .before .before .before .everybody .ensures)
+    (c .before .before .common .ensures) (c .before .fits2 .ensures) (c .common2 .ensures)
 
 pub line-up-spec : {M : Type 1} → statement M
 line-up-spec =
     tie.close
     (tie.spec
+    cast-if1
+    none-requires
+    none-requires-2
+    returns
     allowed-requires
     difference-requires
     everybody-requires
     common-requires
     fits-requires
     common-requires-2
-    returns)
+    returns-2)

@@ -5,8 +5,7 @@ use borrow.Author.Needs.{needs}
 use Prim.Native.Nat.{_-_, _^_}
 use Rattle.sets.specs.Sets.{size, sets}
 use Rattle.sets.specs.Stored.{width, number}
-use Rattle.cases.specs.Positions.{persons}
-use Rattle.boards.specs.Board.{boardChain}
+use Rattle.boards.specs.Arena.{boardArena}
 use lib.Pow.{pow-pos}
 use Rattle.sets.proofs.Counting.{size-empty}
 use Rattle.games.specs.Walks.{ifNone, plan, static}
@@ -24,7 +23,7 @@ use Rattle.walks.proofs.without_plan.Reads as without-plan-reads
 
 abbrev Inv-loop : tie.InvT-loop
 Inv-loop board people t p left limit set₀ used₀ set used =
-    Sweep (λ A. ifNone A (plan (boardChain board people) A left (persons p))) (static (boardChain board people) t left (persons p)) people t 0 limit (number set) used
+    Sweep (λ A. ifNone A (plan (boardArena board people) A left p)) (static (boardArena board people) t left p) people t 0 limit (number set) used
 
 abbrev μ-loop : tie.MeasureT-loop
 μ-loop board people t p left limit set₀ used₀ set used = 2 ^ people - number set
@@ -75,16 +74,16 @@ enum-known-larger : tie.Need-enum-known-larger Inv-loop μ-loop
 enum-known-larger c = search needs
 
 loop-less : tie.Need-loop-less Inv-loop μ-loop
-loop-less c = let s = c .before .before .before .before .before .before .before .before .before .loop .inv in omega (arith, sweep-known s, sweep-higher s _ (next-some _ _ _ _ (c .before .before .before .before .before .before .before .before .before .before .before .before .pre .1) (c .before .larger .given .1) (rw (nobody-shown (c .before .before .before .before .none2 .ensures)) at (c .before .before .before .next .ensures))))
+loop-less c = let s = c .before .before .before .before .before .before .before .before .before .loop .inv in omega (arith, sweep-known s, sweep-higher s _ (next-some _ _ _ _ (c .before .before .before .before .before .before .before .before .before .before .before .before .pre .0) (c .before .larger .given .1) (rw (nobody-shown (c .before .before .before .before .none2 .ensures)) at (c .before .before .before .next .ensures))))
 
 loop-again : tie.Need-loop-again Inv-loop μ-loop
-loop-again c = sweep-on (c .before .before .before .before .before .before .before .before .before .loop .inv) _ (sym (ap (turnOutcome _ _) (c .before .before .before .before .before .before .trials2 .given .1)) ∙ c .before .before .before .before .before .before .before .before .without-plan .ensures) _ (next-some _ _ _ _ (c .before .before .before .before .before .before .before .before .before .before .before .before .pre .1) (c .before .larger .given .1) (rw (nobody-shown (c .before .before .before .before .none2 .ensures)) at (c .before .before .before .next .ensures)))
+loop-again c = sweep-on (c .before .before .before .before .before .before .before .before .before .loop .inv) _ (sym (ap (turnOutcome _ _) (c .before .before .before .before .before .before .trials2 .given .1)) ∙ c .before .before .before .before .before .before .before .before .without-plan .ensures) _ (next-some _ _ _ _ (c .before .before .before .before .before .before .before .before .before .before .before .before .pre .0) (c .before .larger .given .1) (rw (nobody-shown (c .before .before .before .before .none2 .ensures)) at (c .before .before .before .next .ensures)))
 
 enum-told-2 : tie.Need-enum-told-2 Inv-loop μ-loop
 enum-told-2 c = search needs
 
 returns-4 : tie.Need-returns-4 Inv-loop μ-loop
-returns-4 c = sweep-end (c .before .before .before .before .before .before .before .before .loop .inv) _ (sym (ap (turnOutcome _ _) (c .before .before .before .before .before .trials2 .given .1)) ∙ c .before .before .before .before .before .before .before .without-plan .ensures) (next-none _ _ _ _ (c .before .before .before .before .before .before .before .before .before .before .before .pre .1) (c .enum-told2 .given .1) (rw (nobody-shown (c .before .before .before .none2 .ensures)) at (c .before .before .next .ensures)))
+returns-4 c = sweep-end (c .before .before .before .before .before .before .before .before .loop .inv) _ (sym (ap (turnOutcome _ _) (c .before .before .before .before .before .trials2 .given .1)) ∙ c .before .before .before .before .before .before .before .without-plan .ensures) (next-none _ _ _ _ (c .before .before .before .before .before .before .before .before .before .before .before .pre .0) (c .enum-told2 .given .1) (rw (nobody-shown (c .before .before .before .none2 .ensures)) at (c .before .before .next .ensures)))
 
 pub static-walk-spec : {M : Type 1} → statement M
 static-walk-spec =

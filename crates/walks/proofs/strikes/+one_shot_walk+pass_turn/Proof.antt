@@ -7,12 +7,11 @@ use Prim.Native.Nat.{_+_, _-_, _*_}
 use Rattle.sets.specs.Sets.{size}
 use Rattle.sets.specs.Stored.{width, number}
 use Rattle.games.specs.Limit.{cut}
-use Rattle.cases.specs.Positions.{persons}
 use Rattle.walks.specs.Outcomes.{verdictOutcome, turnOutcome, passOn}
 use Rattle.walks.specs.Trying.{tryOutcome}
 use Rattle.walks.proofs.Cuts.{finished, ends, first-limit, first-got, first-none}
 use Rattle.walks.proofs.Scans.{Going, try-limit, try-nobody, try-person, sub-limit, sub-within, sub-done, sub-on}
-use Rattle.walks.proofs.Turns.{room, above-zero, some-left, placed-fits, placed-persons, nobody-shown, passHunt, pass-going, oneShot-full, oneShot-turn}
+use Rattle.walks.proofs.Turns.{above-zero, some-left, placed-is, nobody-shown, passHunt, pass-going, oneShot-full, oneShot-turn}
 use Prim.Native.Nat.{ℕ, _<_}
 use borrow.Fn.Kinds.{In}
 use borrow.Fn.PlainCycle.{Measures, is, falls, and}
@@ -22,10 +21,11 @@ use Rattle.walks.proofs.strikes.+one_shot_walk+pass_turn.Lts-one_shot_w
 use Rattle.walks.proofs.strikes.pass_turn.Reads as pass-turn
 use Rattle.walks.proofs.strikes.pass_turn.Kinds as pass-turn-kinds
 use Rattle.walks.proofs.strikes.+one_shot_walk+pass_turn.Lts-pass_turn as pass-turn-lts
-use Rattle.cases.proofs.Position.placed.Reads as placed-reads
+use Rattle.cases.proofs.Filled.placed.Reads as placed-reads
 use Rattle.sets.proofs.People.none.Reads as none-reads
 use Rattle.walks.proofs.behind.Reads as behind-reads
 use Rattle.walks.proofs.line_up.Reads as line-up-reads
+use Rattle.walks.proofs.next_step.Reads as next-step-reads
 use Rattle.walks.proofs.next_try.Reads as next-try-reads
 use Rattle.walks.proofs.strikes.then_strikes.Reads as then-strikes-reads
 use Rattle.walks.proofs.strikes.+one_shot_walk+pass_turn.{statement}
@@ -62,7 +62,7 @@ one-shot-walk-calls t = (pass-turn-below t, pass-turn.Post, none-reads.Asked, no
 
 -- what the calls of pass_turn ask and give
 abbrev pass-turn-calls : ℕ → pass-turn-lts.Claims
-pass-turn-calls t = (none-reads.Asked, none-reads.Learnt, line-up-reads.Asked, line-up-reads.Learnt, next-try-reads.Asked, next-try-reads.Learnt, placed-reads.Asked, placed-reads.Learnt, one-shot-walk-below t, one-shot-walk.Post, behind-reads.Asked, behind-reads.Learnt)
+pass-turn-calls t = (next-step-reads.Asked, next-step-reads.Learnt, none-reads.Asked, none-reads.Learnt, line-up-reads.Asked, line-up-reads.Learnt, next-try-reads.Asked, next-try-reads.Learnt, placed-reads.Asked, placed-reads.Learnt, one-shot-walk-below t, one-shot-walk.Post, behind-reads.Asked, behind-reads.Learnt)
 
 one-shot-walk-returns : (t : ℕ) → one-shot-walk-lts.Need-returns (one-shot-walk-calls t) (one-shot-walk-at t) one-shot-walk.Post
 one-shot-walk-returns t c = ends _ _ none 0 (oneShot-full _ _ _ (c .if1 .taken) _) (omega arith)
@@ -95,20 +95,23 @@ one-shot-walk-returns-4 : (t : ℕ) → one-shot-walk-lts.Need-returns-4 (one-sh
 one-shot-walk-returns-4 t c = c .then-strikes .ensures ∙ ap (cut _) (sym (first-none _ _ _ _ (sym (ap (turnOutcome _ _) (c .before .before .trials2 .given .1)) ∙ c .before .before .before .before .pass-turn .ensures)) ∙ oneShot-turn _ _ _ _ _ (c .before .before .before .before .before .if1 .left))
 
 abbrev pass-turn-Inv-loop : pass-turn-lts.InvT-loop
-pass-turn-Inv-loop board people t p left limit line₀ used₀ line used =
-    Going (passHunt board people t (left - 1) (persons p)) (passOn board people t (left - 1) (persons p)) limit (number (line .tried)) (number (line .fit)) used tt
+pass-turn-Inv-loop board people t p left limit step line₀ used₀ line used =
+    Going (passHunt board people t (left - 1) p) (passOn board people t (left - 1) p) limit (number (line .tried)) (number (line .fit)) used tt
 
 abbrev pass-turn-μ-loop : pass-turn-lts.MeasureT-loop
-pass-turn-μ-loop board people t p left limit line₀ used₀ line used = size width (number (line .fit))
+pass-turn-μ-loop board people t p left limit step line₀ used₀ line used = size width (number (line .fit))
+
+pass-turn-next-step-requires : (t : ℕ) → pass-turn-lts.Need-next-step-requires (pass-turn-calls t) (pass-turn-at t) pass-turn.Post pass-turn-Inv-loop pass-turn-μ-loop
+pass-turn-next-step-requires t c κs = tt
 
 pass-turn-none-requires : (t : ℕ) → pass-turn-lts.Need-none-requires (pass-turn-calls t) (pass-turn-at t) pass-turn.Post pass-turn-Inv-loop pass-turn-μ-loop
 pass-turn-none-requires t c κs = tt
 
 pass-turn-line-up-requires : (t : ℕ) → pass-turn-lts.Need-line-up-requires (pass-turn-calls t) (pass-turn-at t) pass-turn.Post pass-turn-Inv-loop pass-turn-μ-loop
-pass-turn-line-up-requires t c κs = tt
+pass-turn-line-up-requires t c κs = c .before .next-step .ensures
 
 pass-turn-loop-holds : (t : ℕ) → pass-turn-lts.Need-loop-holds (pass-turn-calls t) (pass-turn-at t) pass-turn.Post pass-turn-Inv-loop pass-turn-μ-loop
-pass-turn-loop-holds t c = pass-going _ _ _ _ _ _ _ (c .before .before .pre .1 .2) _ (rw (nobody-shown (c .before .none .ensures)) at (c .line-up .ensures))
+pass-turn-loop-holds t c = pass-going _ _ _ _ _ _ _ (c .before .before .before .pre .1 .1) (c .before .before .before .pre .1 .2) _ (rw (nobody-shown (c .before .none .ensures)) at (c .line-up .ensures))
 
 pass-turn-next-try-requires : (t : ℕ) → pass-turn-lts.Need-next-try-requires (pass-turn-calls t) (pass-turn-at t) pass-turn.Post pass-turn-Inv-loop pass-turn-μ-loop
 pass-turn-next-try-requires t c κs = c .loop .inv .enough
@@ -132,34 +135,34 @@ pass-turn-placed-requires : (t : ℕ) → pass-turn-lts.Need-placed-requires (pa
 pass-turn-placed-requires t c κs = tt
 
 pass-turn-sub-one-shot-walk : (t : ℕ) → pass-turn-lts.Need-sub-one-shot-walk (pass-turn-calls t) (pass-turn-at t) pass-turn.Post pass-turn-Inv-loop pass-turn-μ-loop
-pass-turn-sub-one-shot-walk t c = omega (arith, c .before .before .before .before .before .before .before .before .pre .1 .0)
+pass-turn-sub-one-shot-walk t c = omega (arith, c .before .before .before .before .before .before .before .before .before .pre .1 .0)
 
 pass-turn-sub-one-shot-walk-2 : (t : ℕ) → pass-turn-lts.Need-sub-one-shot-walk-2 (pass-turn-calls t) (pass-turn-at t) pass-turn.Post pass-turn-Inv-loop pass-turn-μ-loop
 pass-turn-sub-one-shot-walk-2 t c = omega (arith, (try-person (c .before .before .before .before .before .loop .inv) _ _ (sym (ap tryOutcome (c .before .before .v .given .1)) ∙ c .before .before .before .before .next-try .ensures)) .enough)
 
 pass-turn-one-shot-walk-requires : (t : ℕ) → pass-turn-lts.Need-one-shot-walk-requires (pass-turn-calls t) (pass-turn-at t) pass-turn.Post pass-turn-Inv-loop pass-turn-μ-loop
-pass-turn-one-shot-walk-requires t c κs = (omega (arith, c .before .before .before .before .before .before .before .before .pre .1 .0), (omega (arith, placed-fits _ _ _ _ (c .placed .ensures .1) (c .before .before .before .before .before .before .before .before .pre .1 .1) (some-left (c .before .before .before .before .before .before .before .before .pre .1 .0))), c .before .before .before .before .before .before .before .before .pre .1 .2))
+pass-turn-one-shot-walk-requires t c κs = (omega (arith, c .before .before .before .before .before .before .before .before .before .pre .1 .0), (c .before .before .before .before .before .before .before .before .before .pre .1 .1, c .before .before .before .before .before .before .before .before .before .pre .1 .2))
 
 pass-turn-enum-told-2 : (t : ℕ) → pass-turn-lts.Need-enum-told-2 (pass-turn-calls t) (pass-turn-at t) pass-turn.Post pass-turn-Inv-loop pass-turn-μ-loop
 pass-turn-enum-told-2 t c = search needs
 
 pass-turn-returns-3 : (t : ℕ) → pass-turn-lts.Need-returns-3 (pass-turn-calls t) (pass-turn-at t) pass-turn.Post pass-turn-Inv-loop pass-turn-μ-loop
-pass-turn-returns-3 t c = sub-limit (try-person (c .before .before .before .before .before .before .before .before .loop .inv) _ _ (sym (ap tryOutcome (c .before .before .before .before .before .v .given .1)) ∙ c .before .before .before .before .before .before .before .next-try .ensures)) (sym (ap (verdictOutcome _) (c .enum-told2 .given .1)) ∙ (rw (placed-persons _ _ _ (c .before .before .before .placed .ensures .1) (room _ _ (c .before .before .before .before .before .before .before .before .before .before .before .pre .1 .1) (some-left (c .before .before .before .before .before .before .before .before .before .before .before .pre .1 .0)))) at (c .before .before .one-shot-walk .ensures)))
+pass-turn-returns-3 t c = sub-limit (try-person (c .before .before .before .before .before .before .before .before .loop .inv) _ _ (sym (ap tryOutcome (c .before .before .before .before .before .v .given .1)) ∙ c .before .before .before .before .before .before .before .next-try .ensures)) (sym (ap (verdictOutcome _) (c .enum-told2 .given .1)) ∙ (rw (placed-is _ _ _ _ _ (c .before .before .before .placed .ensures) (c .before .before .before .before .before .before .before .before .before .before .before .next-step .ensures)) at (c .before .before .one-shot-walk .ensures)))
 
 pass-turn-enum-known-more : (t : ℕ) → pass-turn-lts.Need-enum-known-more (pass-turn-calls t) (pass-turn-at t) pass-turn.Post pass-turn-Inv-loop pass-turn-μ-loop
 pass-turn-enum-known-more t c = search needs
 
-pass-turn-add-t20 : (t : ℕ) → pass-turn-lts.Need-add-t20 (pass-turn-calls t) (pass-turn-at t) pass-turn.Post pass-turn-Inv-loop pass-turn-μ-loop
-pass-turn-add-t20 t c = omega (arith, c .before .before .before .before .before .before .before .before .before .before .before .before .fits .limit .fits, sub-within (try-person (c .before .before .before .before .before .before .before .before .before .loop .inv) _ _ (sym (ap tryOutcome (c .before .before .before .before .before .before .v .given .1)) ∙ c .before .before .before .before .before .before .before .before .next-try .ensures)) _ _ (sym (ap (verdictOutcome _) (c .before .more .given .1)) ∙ (rw (placed-persons _ _ _ (c .before .before .before .before .placed .ensures .1) (room _ _ (c .before .before .before .before .before .before .before .before .before .before .before .before .pre .1 .1) (some-left (c .before .before .before .before .before .before .before .before .before .before .before .before .pre .1 .0)))) at (c .before .before .before .one-shot-walk .ensures))))
+pass-turn-add-t21 : (t : ℕ) → pass-turn-lts.Need-add-t21 (pass-turn-calls t) (pass-turn-at t) pass-turn.Post pass-turn-Inv-loop pass-turn-μ-loop
+pass-turn-add-t21 t c = omega (arith, c .before .before .before .before .before .before .before .before .before .before .before .before .before .fits .limit .fits, sub-within (try-person (c .before .before .before .before .before .before .before .before .before .loop .inv) _ _ (sym (ap tryOutcome (c .before .before .before .before .before .before .v .given .1)) ∙ c .before .before .before .before .before .before .before .before .next-try .ensures)) _ _ (sym (ap (verdictOutcome _) (c .before .more .given .1)) ∙ (rw (placed-is _ _ _ _ _ (c .before .before .before .before .placed .ensures) (c .before .before .before .before .before .before .before .before .before .before .before .before .next-step .ensures)) at (c .before .before .before .one-shot-walk .ensures))))
 
 pass-turn-returns-4 : (t : ℕ) → pass-turn-lts.Need-returns-4 (pass-turn-calls t) (pass-turn-at t) pass-turn.Post pass-turn-Inv-loop pass-turn-μ-loop
-pass-turn-returns-4 t c = sub-done (try-person (c .before .before .before .before .before .before .before .before .before .loop .inv) _ _ (sym (ap tryOutcome (c .before .before .before .before .before .before .v .given .1)) ∙ c .before .before .before .before .before .before .before .before .next-try .ensures)) _ _ (sym (ap (verdictOutcome _) (c .before .more .given .1)) ∙ (rw (placed-persons _ _ _ (c .before .before .before .before .placed .ensures .1) (room _ _ (c .before .before .before .before .before .before .before .before .before .before .before .before .pre .1 .1) (some-left (c .before .before .before .before .before .before .before .before .before .before .before .before .pre .1 .0)))) at (c .before .before .before .one-shot-walk .ensures))) _ refl
+pass-turn-returns-4 t c = sub-done (try-person (c .before .before .before .before .before .before .before .before .before .loop .inv) _ _ (sym (ap tryOutcome (c .before .before .before .before .before .before .v .given .1)) ∙ c .before .before .before .before .before .before .before .before .next-try .ensures)) _ _ (sym (ap (verdictOutcome _) (c .before .more .given .1)) ∙ (rw (placed-is _ _ _ _ _ (c .before .before .before .before .placed .ensures) (c .before .before .before .before .before .before .before .before .before .before .before .before .next-step .ensures)) at (c .before .before .before .one-shot-walk .ensures))) _ refl
 
 pass-turn-enum-known-more-2 : (t : ℕ) → pass-turn-lts.Need-enum-known-more-2 (pass-turn-calls t) (pass-turn-at t) pass-turn.Post pass-turn-Inv-loop pass-turn-μ-loop
 pass-turn-enum-known-more-2 t c = search needs
 
 pass-turn-add-used : (t : ℕ) → pass-turn-lts.Need-add-used (pass-turn-calls t) (pass-turn-at t) pass-turn.Post pass-turn-Inv-loop pass-turn-μ-loop
-pass-turn-add-used t c = omega (arith, c .before .before .before .before .before .before .before .before .before .before .before .before .fits .limit .fits, sub-within (try-person (c .before .before .before .before .before .before .before .before .before .loop .inv) _ _ (sym (ap tryOutcome (c .before .before .before .before .before .before .v .given .1)) ∙ c .before .before .before .before .before .before .before .before .next-try .ensures)) _ _ (sym (ap (verdictOutcome _) (c .before .more2 .given .1)) ∙ (rw (placed-persons _ _ _ (c .before .before .before .before .placed .ensures .1) (room _ _ (c .before .before .before .before .before .before .before .before .before .before .before .before .pre .1 .1) (some-left (c .before .before .before .before .before .before .before .before .before .before .before .before .pre .1 .0)))) at (c .before .before .before .one-shot-walk .ensures))))
+pass-turn-add-used t c = omega (arith, c .before .before .before .before .before .before .before .before .before .before .before .before .before .fits .limit .fits, sub-within (try-person (c .before .before .before .before .before .before .before .before .before .loop .inv) _ _ (sym (ap tryOutcome (c .before .before .before .before .before .before .v .given .1)) ∙ c .before .before .before .before .before .before .before .before .next-try .ensures)) _ _ (sym (ap (verdictOutcome _) (c .before .more2 .given .1)) ∙ (rw (placed-is _ _ _ _ _ (c .before .before .before .before .placed .ensures) (c .before .before .before .before .before .before .before .before .before .before .before .before .next-step .ensures)) at (c .before .before .before .one-shot-walk .ensures))))
 
 pass-turn-behind-requires : (t : ℕ) → pass-turn-lts.Need-behind-requires (pass-turn-calls t) (pass-turn-at t) pass-turn.Post pass-turn-Inv-loop pass-turn-μ-loop
 pass-turn-behind-requires t c κs = tt
@@ -168,7 +171,7 @@ pass-turn-loop-less : (t : ℕ) → pass-turn-lts.Need-loop-less (pass-turn-call
 pass-turn-loop-less t c = rw (c .behind .ensures .1) ((try-person (c .before .before .before .before .before .before .before .before .before .before .loop .inv) _ _ (sym (ap tryOutcome (c .before .before .before .before .before .before .before .v .given .1)) ∙ c .before .before .before .before .before .before .before .before .before .next-try .ensures)) .fewer)
 
 pass-turn-loop-again : (t : ℕ) → pass-turn-lts.Need-loop-again (pass-turn-calls t) (pass-turn-at t) pass-turn.Post pass-turn-Inv-loop pass-turn-μ-loop
-pass-turn-loop-again t c = rw (c .behind .ensures .0, c .behind .ensures .1) (sub-on (try-person (c .before .before .before .before .before .before .before .before .before .before .loop .inv) _ _ (sym (ap tryOutcome (c .before .before .before .before .before .before .before .v .given .1)) ∙ c .before .before .before .before .before .before .before .before .before .next-try .ensures)) _ _ (sym (ap (verdictOutcome _) (c .before .before .more2 .given .1)) ∙ (rw (placed-persons _ _ _ (c .before .before .before .before .before .placed .ensures .1) (room _ _ (c .before .before .before .before .before .before .before .before .before .before .before .before .before .pre .1 .1) (some-left (c .before .before .before .before .before .before .before .before .before .before .before .before .before .pre .1 .0)))) at (c .before .before .before .before .one-shot-walk .ensures))) _ refl)
+pass-turn-loop-again t c = rw (c .behind .ensures .0, c .behind .ensures .1) (sub-on (try-person (c .before .before .before .before .before .before .before .before .before .before .loop .inv) _ _ (sym (ap tryOutcome (c .before .before .before .before .before .before .before .v .given .1)) ∙ c .before .before .before .before .before .before .before .before .before .next-try .ensures)) _ _ (sym (ap (verdictOutcome _) (c .before .before .more2 .given .1)) ∙ (rw (placed-is _ _ _ _ _ (c .before .before .before .before .before .placed .ensures) (c .before .before .before .before .before .before .before .before .before .before .before .before .before .next-step .ensures)) at (c .before .before .before .before .one-shot-walk .ensures))) _ refl)
 
 pub +one-shot-walk+pass-turn-spec : {M : Type 1} → statement M
 +one-shot-walk+pass-turn-spec = close μ-one-shot-walk μ-pass-turn (λ t. one-shot-walk-lts.spec (one-shot-walk-calls t)
@@ -189,6 +192,7 @@ pub +one-shot-walk+pass-turn-spec : {M : Type 1} → statement M
     pass-turn.Post
     pass-turn-Inv-loop
     pass-turn-μ-loop
+    (pass-turn-next-step-requires t)
     (pass-turn-none-requires t)
     (pass-turn-line-up-requires t)
     (pass-turn-loop-holds t)
@@ -205,7 +209,7 @@ pub +one-shot-walk+pass-turn-spec : {M : Type 1} → statement M
     (pass-turn-enum-told-2 t)
     (pass-turn-returns-3 t)
     (pass-turn-enum-known-more t)
-    (pass-turn-add-t20 t)
+    (pass-turn-add-t21 t)
     (pass-turn-returns-4 t)
     (pass-turn-enum-known-more-2 t)
     (pass-turn-add-used t)
