@@ -11,6 +11,7 @@ use Rattle.sets.specs.Sets.{has, setOf, size, members, lowest, without, common,
 use Rattle.sets.specs.Stored.{width, number}
 use Rattle.sets.specs.declared.People.{People}
 use Rattle.sets.proofs.Lists.{and-true-end, or-false-end, all-append, any-append}
+use Rattle.sets.proofs.Bits.{has-empty}
 use Rattle.sets.proofs.Counting.{has-setOf, setOf-ext}
 use Rattle.sets.proofs.Members.{lowest-none, lowest-some, lowest-size}
 use Rattle.boards.specs.Over.{Over, Narrowed, Gathered}
@@ -50,6 +51,10 @@ module _ {whole left x : ℕ} {done : List ℕ} (o : Over whole left x done) whe
   over-end : 32 ≤ x → members 32 whole ≡ done
   over-end h = o .split ∙ ap (λ (r : List ℕ). done ++ r) (lowest-none 32 left (is-none left x (o .next) h)) ∙ append-nil done
 
+and-assoc : (a b c : Bool) → (a && b) && c ≡ a && (b && c)
+and-assoc true b c = refl
+and-assoc false b c = refl
+
 -- ---- those who pass the test of every member, and of some
 
 -- a member of a set that is known by its test
@@ -79,26 +84,59 @@ module _ (test : ℕ → ℕ → Bool) where
       (λ u l. ap₂ _||_ (has-of one (someOf done) e u l) (h u l ∙ sym (or-false-end (test x u)))
       ∙ sym (any-append (λ i. test i u) done (x ∷ [])))
 
-  -- ---- every
+  -- ---- every, of some people
 
-  pub narrowed-start : (whole s x : ℕ) (every : People) → s ≡ whole → x ≡ valueOr 32 (lowest 32 s) → number every ≡ setOf (λ u. true) width
-      → Narrowed test whole s x every
+  abbrev everyOfThose : ℕ → List ℕ → ℕ → Bool
+  everyOfThose among done u = has among u && everyOf done u
+
+  pub narrowed-start : (among whole s x there : ℕ) (every : People) → s ≡ whole → x ≡ valueOr 32 (lowest 32 s) → there ≡ setOf (λ u. true) width
+      → number every ≡ common width there among → Narrowed test among whole s x every
   unfolding all
-  narrowed-start whole s x every w e q = record { done = []; over = over-start whole s x w e; each = q }
+  narrowed-start among whole s x there every w e q r =
+      record {
+        done = [];
+        over = over-start whole s x w e;
+        each = r ∙ setOf-ext _ _ width (λ u l. ap (λ (b : Bool). b && has among u) (has-of there (λ v. true) q u l) ∙ sym (and-true-end (has among u)));
+      }
 
-  module _ {whole left x : ℕ} {every : People} (g : Narrowed test whole left x every) where
+  module _ {among whole left x : ℕ} {every : People} (g : Narrowed test among whole left x every) where
+    narrowed-each : (here every′ : People) → ((u : ℕ) → u < width → has (number here) u ≡ test x u) → number every′ ≡ common width (number every) (number here)
+        → number every′ ≡ setOf (everyOfThose among (g .done ++ (x ∷ []))) width
+    unfolding all
+    narrowed-each here every′ h a =
+        a ∙ setOf-ext _ _ width
+        (λ u l. ap₂ _&&_ (has-of (number every) (everyOfThose among (g .done)) (g .each) u l) (h u l ∙ sym (and-true-end (test x u)))
+        ∙ and-assoc (has among u) (everyOf (g .done) u) (test x u && true)
+        ∙ ap (λ (b : Bool). has among u && b) (sym (all-append (λ i. test i u) (g .done) (x ∷ []))))
+
     pub narrowed-step : x < 32 → (left′ x′ : ℕ) (here every′ : People) → left′ ≡ without 32 left x → x′ ≡ valueOr 32 (lowest 32 left′)
         → ((u : ℕ) → u < width → has (number here) u ≡ test x u) → number every′ ≡ common width (number every) (number here)
-        → Narrowed test whole left′ x′ every′
+        → Narrowed test among whole left′ x′ every′
     narrowed-step l left′ x′ here every′ q e h a =
         record {
           done = g .done ++ (x ∷ []);
           over = over-step (g .over) l left′ x′ q e;
-          each = every-step (g .done) x (number every) (number here) (number every′) (g .each) h a;
+          each = narrowed-each here every′ h a;
         }
 
-    pub narrowed-end : 32 ≤ x → number every ≡ setOf (everyOf (members 32 whole)) width
-    narrowed-end l = g .each ∙ ap (λ (d : List ℕ). setOf (everyOf d) width) (sym (over-end (g .over) l))
+    pub narrowed-end : 32 ≤ x → number every ≡ setOf (everyOfThose among (members 32 whole)) width
+    narrowed-end l = g .each ∙ ap (λ (d : List ℕ). setOf (everyOfThose among d) width) (sym (over-end (g .over) l))
+
+    -- nobody is left: whatever the other members ask, nobody passes
+    pub narrowed-none : x < 32 → (here every′ : People) → ((u : ℕ) → u < width → has (number here) u ≡ test x u)
+        → number every′ ≡ common width (number every) (number here) → number every′ ≡ 0 → number every′ ≡ setOf (everyOfThose among (members 32 whole)) width
+    narrowed-none l here every′ h a z =
+        let e = narrowed-each here every′ h a in
+        let o = over-step (g .over) l (without 32 left x) (valueOr 32 (lowest 32 (without 32 left x))) refl refl in
+        e ∙ setOf-ext _ _ width (λ u k. sym
+        (ap (λ (d : List ℕ). everyOfThose among d u) (o .split)
+        ∙ ap (λ (b : Bool). has among u && b) (all-append (λ i. test i u) (g .done ++ (x ∷ [])) (members 32 (without 32 left x)))
+        ∙ sym (and-assoc (has among u) (everyOf (g .done ++ (x ∷ [])) u) (everyOf (members 32 (without 32 left x)) u))
+        ∙ nobody (everyOfThose among (g .done ++ (x ∷ [])) u) (everyOf (members 32 (without 32 left x)) u)
+        (sym (has-of (number every′) (everyOfThose among (g .done ++ (x ∷ []))) e u k) ∙ ap (λ (n : ℕ). has n u) z ∙ has-empty u)))
+      where
+        nobody : (b c : Bool) → b ≡ false → b && c ≡ b
+        nobody b c q = ap (λ (y : Bool). y && c) q ∙ sym q
 
   -- ---- every and some
 

@@ -1,13 +1,13 @@
 -- The four kinds of pairs, the test of a single rule, and of those that a step completes.
-use mathlib.Core.Path.{_≡_, ap, ap₂, _∙_}
-use mathlib.Core.Bool.{Bool, true, false}
+use mathlib.Core.Path.{_≡_, sym, ap, ap₂, _∙_}
+use mathlib.Core.Bool.{Bool, true, false, _&&_}
 use mathlib.Core.List.{List, _++_, append-nil}
 use Prim.Native.Nat.{ℕ, _<_, _^_}
 use borrow.Author.Tests.{eq-eqb, ne-eqb}
 use lib.Dec.{eqb}
 use lib.ListN.{getD}
 use Rattle.sets.specs.Lists.{pick, from, upto, keep, all, any}
-use Rattle.sets.specs.Sets.{has, setOf, members, with}
+use Rattle.sets.specs.Sets.{has, setOf, members, common, with}
 use Rattle.sets.specs.Stored.{width, setAt}
 use Rattle.sets.proofs.Lists.{from-lo, from-append, keep-append, keep-nothing}
 use Rattle.sets.proofs.Bits.{has-beyond}
@@ -94,7 +94,8 @@ pub due-here : (b : List ℕ) (p : Filled) (s i here : ℕ) (r : Rule) → here 
     → has here u ≡ dueTest b p s i u
 due-here b p s i here r q e u l = ap (λ (z : ℕ). has z u) q ∙ has-setOf (keptOn b p s r) width u l ∙ ap (λ z. keptOn b p s z u) e
 
-pub fits-are : (b : List ℕ) (p : Filled) (s n : ℕ) → n ≡ setOf (λ u. all (λ i. dueTest b p s i u) (members mostRules (dueOn b p s))) width
-    → n ≡ fitsOn b p s
+pub fits-are : (b : List ℕ) (p : Filled) (s among n : ℕ)
+    → n ≡ setOf (λ u. has among u && all (λ i. dueTest b p s i u) (members mostRules (dueOn b p s))) width → n ≡ common width among (fitsOn b p s)
 unfolding fitsOn
-fits-are b p s n q = q
+fits-are b p s among n q =
+    q ∙ setOf-ext _ _ width (λ u l. ap (λ (x : Bool). has among u && x) (sym (has-setOf (λ v. all (λ i. dueTest b p s i v) (members mostRules (dueOn b p s))) width u l)))

@@ -1,10 +1,10 @@
 -- What the loops over a set have come to: the members that are done, lowest first, and what was gathered from them.
 use mathlib.Core.Path.{_≡_}
-use mathlib.Core.Bool.{Bool}
+use mathlib.Core.Bool.{Bool, _&&_}
 use mathlib.Core.List.{List, _++_}
 use Prim.Native.Nat.{ℕ}
 use Rattle.sets.specs.Lists.{valueOr, all, any}
-use Rattle.sets.specs.Sets.{setOf, members, lowest}
+use Rattle.sets.specs.Sets.{has, setOf, members, lowest}
 use Rattle.sets.specs.Stored.{width, number}
 use Rattle.sets.specs.declared.People.{People}
 
@@ -13,13 +13,13 @@ pub record Over (whole left x : ℕ) (done : List ℕ) : Type 0 where
   pub next : x ≡ valueOr 32 (lowest 32 left)
   pub split : members 32 whole ≡ done ++ members 32 left
 
--- the people who pass the test of every member done
-pub record Narrowed (test : ℕ → ℕ → Bool) (whole left x : ℕ) (every : People) : Type 0 where
+-- of some people those who pass the test of every member done
+pub record Narrowed (test : ℕ → ℕ → Bool) (among whole left x : ℕ) (every : People) : Type 0 where
   pub done : List ℕ
   pub over : Over whole left x done
-  pub each : number every ≡ setOf (λ u. all (λ i. test i u) done) width
+  pub each : number every ≡ setOf (λ u. has among u && all (λ i. test i u) done) width
 
--- and those who pass the test of some member done
+-- those who pass the test of every member done, and those who pass the test of some
 pub record Gathered (test : ℕ → ℕ → Bool) (whole left x : ℕ) (every some : People) : Type 0 where
   pub done : List ℕ
   pub over : Over whole left x done

@@ -14,7 +14,7 @@ use sets::within;
 use sets::without;
 ghost use mathlib.Core.Path.{_≡_};
 ghost use lib.ListN.{getD};
-ghost use Rattle.sets.specs.Sets.{setOf};
+ghost use Rattle.sets.specs.Sets.{setOf, common};
 ghost use Rattle.sets.specs.Stored.{width, number};
 ghost use Rattle.boards.specs.Board.{unpacked, allowedOn, namedOn, ruleOn, completeOn, readyOn, fullOn, dueOn, settledOn, pairOn, keptOn, fitsOn};
 
@@ -74,16 +74,19 @@ pub fn settled(board: &[u32; PLACES], p: Filled, s: Step) -> bool
     within(named(board, s), full(board, p, s))
 }
 
-// The people with whom, placed at step s, every rule is kept that s completes.
-pub fn fits(board: &[u32; PLACES], p: Filled, s: Step) -> People
-    ensures { λ r. ⌜ number r ≡ fitsOn (now (board .entry)) p (s .0) ⌝ }
+// Of some people those with whom, placed at step s, every rule is kept that s completes. Where a rule leaves nobody, no other is asked.
+pub fn fits(board: &[u32; PLACES], p: Filled, s: Step, among: People) -> People
+    ensures { λ r. ⌜ number r ≡ common width (number among) (fitsOn (now (board .entry)) p (s .0)) ⌝ }
 {
-    let mut kept = everybody_if(true);
+    let mut kept = everybody_if(true).common(among);
     let mut left = due(board, p, s);
     let mut i = lowest_in(left);
     while i < 32 {
         let here = keepers(board, p, s, rule(board, i));
         kept = kept.common(here);
+        if kept.is_none() {
+            return kept;
+        }
         left = without(left, i);
         i = lowest_in(left);
     }

@@ -9,3 +9,4 @@ pub mod Trials
 pub mod Strikes
 pub mod Matched
 pub mod Walks
+pub mod Gone

@@ -43,7 +43,7 @@ unfolding seek
 seek-map f g [] = refl
 seek-map f g (x ∷ xs) = ap (λ r. orElse (f (g x) .got) (f (g x) .trials) (λ _. r)) (seek-map f g xs)
 
-seek-told : {A B C : Type 0} (h : B → C) (f : A → Search B) (xs : List A) → told h (seek f xs) ≡ seek (λ x. told h (f x)) xs
+pub seek-told : {A B C : Type 0} (h : B → C) (f : A → Search B) (xs : List A) → told h (seek f xs) ≡ seek (λ x. told h (f x)) xs
 unfolding seek orElse plus
 seek-told h f [] = refl
 seek-told {A} {B} h f (x ∷ xs) = go (f x .got) (f x .trials) (seek-told h f xs)

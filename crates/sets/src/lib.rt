@@ -119,6 +119,13 @@ impl People {
         }
     }
 
+    // Is nobody a member?
+    pub fn is_none(self) -> bool
+        ensures { λ r. ⌜ r ≡ eqb (number self) 0 ⌝ }
+    {
+        self.bits == 0
+    }
+
     // Is person v a member?
     pub fn has(self, v: u8) -> bool
         ensures { λ r. ⌜ r ≡ has (number self) v ⌝ }
