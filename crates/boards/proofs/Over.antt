@@ -89,14 +89,14 @@ module _ (test : ℕ → ℕ → Bool) where
   abbrev everyOfThose : ℕ → List ℕ → ℕ → Bool
   everyOfThose among done u = has among u && everyOf done u
 
-  pub narrowed-start : (among whole s x there : ℕ) (every : People) → s ≡ whole → x ≡ valueOr 32 (lowest 32 s) → there ≡ setOf (λ u. true) width
-      → number every ≡ common width there among → Narrowed test among whole s x every
+  pub narrowed-start : (whole s x there among : ℕ) (every : People) → s ≡ whole → x ≡ valueOr 32 (lowest 32 s) → number every ≡ common width there among
+      → Narrowed test (number every) whole s x every
   unfolding all
-  narrowed-start among whole s x there every w e q r =
+  narrowed-start whole s x there among every w e r =
       record {
         done = [];
         over = over-start whole s x w e;
-        each = r ∙ setOf-ext _ _ width (λ u l. ap (λ (b : Bool). b && has among u) (has-of there (λ v. true) q u l) ∙ sym (and-true-end (has among u)));
+        each = r ∙ setOf-ext _ _ width (λ u l. sym (and-true-end (has (number every) u) ∙ has-of (number every) (λ v. has there v && has among v) r u l));
       }
 
   module _ {among whole left x : ℕ} {every : People} (g : Narrowed test among whole left x every) where

@@ -94,8 +94,11 @@ pub due-here : (b : List ℕ) (p : Filled) (s i here : ℕ) (r : Rule) → here 
     → has here u ≡ dueTest b p s i u
 due-here b p s i here r q e u l = ap (λ (z : ℕ). has z u) q ∙ has-setOf (keptOn b p s r) width u l ∙ ap (λ z. keptOn b p s z u) e
 
-pub fits-are : (b : List ℕ) (p : Filled) (s among n : ℕ)
-    → n ≡ setOf (λ u. has among u && all (λ i. dueTest b p s i u) (members mostRules (dueOn b p s))) width → n ≡ common width among (fitsOn b p s)
+pub fits-are : (b : List ℕ) (p : Filled) (s among there k n : ℕ) → there ≡ setOf (λ u. true) width → k ≡ common width there among
+    → n ≡ setOf (λ u. has k u && all (λ i. dueTest b p s i u) (members mostRules (dueOn b p s))) width → n ≡ common width among (fitsOn b p s)
 unfolding fitsOn
-fits-are b p s among n q =
-    q ∙ setOf-ext _ _ width (λ u l. ap (λ (x : Bool). has among u && x) (sym (has-setOf (λ v. all (λ i. dueTest b p s i v) (members mostRules (dueOn b p s))) width u l)))
+fits-are b p s among there k n e h q =
+    q ∙ setOf-ext _ _ width (λ u l. ap₂ _&&_
+    (ap (λ (x : ℕ). has x u) h ∙ has-setOf (λ v. has there v && has among v) width u l
+    ∙ ap (λ (x : Bool). x && has among u) (ap (λ (x : ℕ). has x u) e ∙ has-setOf (λ v. true) width u l))
+    (sym (has-setOf (λ v. all (λ i. dueTest b p s i v) (members mostRules (dueOn b p s))) width u l)))

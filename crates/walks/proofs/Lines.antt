@@ -122,12 +122,12 @@ showing-same t sub = record { trials = λ u. refl; step = λ u s. at u (sub u .g
 
 -- what the code makes it of
 module _ (b : List ℕ) (n A : ℕ) (p : Filled) (s : ℕ) (e : s ≡ stepOn b p) where
-  pub line-is : (al di ev T fi F : ℕ) → s < mostSteps → al ≡ allowedOn b s → di ≡ difference width al A → ev ≡ everybody width n → T ≡ common width di ev
-      → fi ≡ fitsOn b p s → F ≡ common width T fi → InLine b n A p T F
-  line-is al di ev T fi F l a d v t f g =
+  pub line-is : (al di ev T F : ℕ) → s < mostSteps → al ≡ allowedOn b s → di ≡ difference width al A → ev ≡ everybody width n → T ≡ common width di ev
+      → F ≡ common width T (fitsOn b p s) → InLine b n A p T F
+  line-is al di ev T F l a d v t g =
       record {
         tried = t ∙ ap₂ (λ x y. common width x y) (d ∙ ap (λ x. difference width x A) (a ∙ sym known)) v;
-        fit = g ∙ ap (λ x. common width T x) (f ∙ ap (fitsOn b p) e);
+        fit = g ∙ ap (λ x. common width T (fitsOn b p x)) e;
       }
     where
       known : asked b p ≡ allowedOn b s

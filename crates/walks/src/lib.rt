@@ -98,10 +98,9 @@ fn line_up(board: &[u32; PLACES], people: u8, absent: People, p: Filled, step: S
     let tried = allowed(board, step)
         .difference(absent)
         .common(People::everybody(people));
-    let fit = tried.common(fits(board, p, step));
     Line {
         tried: tried,
-        fit: fit,
+        fit: fits(board, p, step, tried),
     }
 }
 

@@ -32,14 +32,11 @@ common-requires c κs = search needs
 fits-requires : tie.Need-fits-requires
 fits-requires c κs = search needs
 
-common-requires-2 : tie.Need-common-requires-2
-common-requires-2 c κs = search needs
-
 returns-2 : tie.Need-returns-2
 returns-2 c =
-    line-is _ _ _ _ _ (c .before .before .before .before .before .before .before .pre) _ _ _ _ _ _ (omega arith)
-    (c .before .before .before .before .before .allowed .ensures) (c .before .before .before .before .difference .ensures) (c .before .before .before .everybody .ensures)
-    (c .before .before .common .ensures) (c .before .fits2 .ensures) (c .common2 .ensures)
+    line-is _ _ _ _ _ (c .before .before .before .before .before .before .pre) _ _ _ _ _ (omega arith)
+    (c .before .before .before .before .allowed .ensures) (c .before .before .before .difference .ensures) (c .before .before .everybody .ensures)
+    (c .before .common .ensures) (c .fits2 .ensures)
 
 pub line-up-spec : {M : Type 1} → statement M
 line-up-spec =
@@ -54,5 +51,4 @@ line-up-spec =
     everybody-requires
     common-requires
     fits-requires
-    common-requires-2
     returns-2)
