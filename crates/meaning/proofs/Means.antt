@@ -15,7 +15,7 @@ use Rattle.sets.specs.Lists.{pick, _∈_, upto, keep, all}
 use Rattle.sets.specs.Sets.{has, setOf, members, with, within}
 use Rattle.sets.specs.Stored.{width, setAt}
 use Rattle.sets.proofs.Lists.{and-true, true-and, true-or, upto-in, upto-mem, keep-in, keep-mem, keep-cong, all-mem, mem-all, all-cong}
-use Rattle.sets.proofs.Bits.{has-beyond}
+use Rattle.sets.proofs.Bits.{has-beyond, has-empty}
 use Rattle.sets.proofs.Counting.{setOf-lt, has-setOf, set-ext}
 use Rattle.sets.proofs.Members.{members-in, members-mem}
 use Rattle.sets.proofs.Listed.{within-mem, mem-within}
@@ -139,21 +139,30 @@ module _ (c : Case) (o : Order) where
     placed-set : (f : ℕ) → f < 2 ^ steps c → f < stepSets
     placed-set f h = omega (arith, sets-few (steps c) (ready .counts .steps))
 
-    -- a step of the case that is not filled, where those that must precede it are
-    pub ready-means : (p : Filled) → Sound c p → (s : ℕ) → s < mostSteps
-        → has (readyOn b p) s ≡ ltb s (steps c) && (not (has (p .steps) s) && all (has (p .steps)) (stepsIn (preceding c o s)))
+    -- what the board tells of a step where the steps of p are filled
+    pub ready-told : (p : Filled) → p .steps < stepSets → (s : ℕ) → s < mostSteps
+        → has (readyOn b p) s
+        ≡ ltb (p .steps) (2 ^ steps c) && (ltb s (steps c) && (not (has (p .steps) s) && all (has (p .steps)) (stepsIn (preceding c o s))))
     unfolding readyOn readyOf
-    ready-means p sound s l =
+    ready-told p small s l =
         steps-low (getD b (readyPlace (p .steps)) 0) s l
-        ∙ ap (λ (z : ℕ). has z s) (ready-at c o (p .steps) (placed-set (p .steps) (sound .listed)) ∙ ap (λ (d : Bool). pick d those 0) (lt-ltb (p .steps) (2 ^ steps c) (sound .listed)))
-        ∙ has-setOf test mostSteps s l
-        ∙ ap (λ (d : Bool). ltb s (steps c) && (not (has (p .steps) s) && d)) (within-steps (preceding c o s) (p .steps))
+        ∙ ap (λ (z : ℕ). has z s) (ready-at c o (p .steps) small) ∙ go (ltb (p .steps) (2 ^ steps c))
+        ∙ ap (λ (d : Bool). ltb (p .steps) (2 ^ steps c) && (ltb s (steps c) && (not (has (p .steps) s) && d))) (within-steps (preceding c o s) (p .steps))
       where
         test : ℕ → Bool
         test = λ x. ltb x (steps c) && (not (has (p .steps) x) && within mostSteps (preceding c o x) (p .steps))
 
-        those : ℕ
-        those = setOf test mostSteps
+        go : (d : Bool) → has (pick d (setOf test mostSteps) 0) s ≡ d && test s
+        go true = has-setOf test mostSteps s l
+        go false = has-empty s
+
+    -- a step of the case that is not filled, where those that must precede it are
+    pub ready-means : (p : Filled) → Sound c p → (s : ℕ) → s < mostSteps
+        → has (readyOn b p) s ≡ ltb s (steps c) && (not (has (p .steps) s) && all (has (p .steps)) (stepsIn (preceding c o s)))
+    ready-means p sound s l =
+        ready-told p (placed-set (p .steps) (sound .listed)) s l
+        ∙ ap (λ (d : Bool). d && (ltb s (steps c) && (not (has (p .steps) s) && all (has (p .steps)) (stepsIn (preceding c o s)))))
+        (lt-ltb (p .steps) (2 ^ steps c) (sound .listed))
 
     -- ---- with whom a rule is kept
 

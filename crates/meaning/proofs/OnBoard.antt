@@ -22,7 +22,7 @@ use Rattle.cases.specs.Case.{mostSteps, people, steps}
 use Rattle.cases.specs.Rules.{rulesHold}
 use Rattle.cases.specs.Plans.{may, holds, Valid}
 use Rattle.cases.specs.Filled.{startFilled, whoIn}
-use Rattle.cases.specs.Chain.{offers, place, chain, planOf, staticOf, decrementalOf, dynamicOf, awayAt}
+use Rattle.cases.specs.Chain.{offers, place, chain, personOf, planOf, staticOf, decrementalOf, oneShotOf, dynamicOf, adviceAt, awayAt}
 use Rattle.cases.proofs.Rounds.{may-known, may-step, offered-in, start-valid, snoc-each}
 use Rattle.boards.specs.Board.{allowedOn, readyOn, fitsOn}
 use Rattle.boards.specs.Arena.{Done, by, putOn, boardArena}
@@ -164,10 +164,21 @@ module _ (c : Case) (ready : Ready c) where
     pub dynamic-from : (t k : ℕ) → dynamic onBoard t k (filledBy p) ≡ dynamic (chain c) t k p
     dynamic-from t k = sym (dynamic-agree (chain c) onBoard refl filledBy nextDone (Valid c) agrees t k p v)
 
+    -- the person that advice names is the move of the chain
+    pub advice-from : (t k A : ℕ) → advice onBoard t k A (filledBy p) ≡ told (λ (a : ℕ × ℕ). (a .0, nextDone p (a .1))) (advice (chain c) t k A p)
+    advice-from t k A = sym (advice-agree (chain c) onBoard refl filledBy nextDone (Valid c) agrees t k A p v)
+
     -- ---- the walks of play
 
-    pub advice-on-board : (t k A : ℕ) → advice onBoard t k A (filledBy p) ≡ told (λ (a : ℕ × ℕ). (a .0, nextDone p (a .1))) (advice (chain c) t k A p)
-    advice-on-board t k A = sym (advice-agree (chain c) onBoard refl filledBy nextDone (Valid c) agrees t k A p v)
+    pub advice-on-board : (t A : ℕ) → told (λ (a : ℕ × Done). a .0) (advice onBoard t (steps c - length p) A (filledBy p)) ≡ adviceAt c t A p
+    advice-on-board t A = ap (told (λ (a : ℕ × Done). a .0)) (advice-from t (steps c - length p) A) ∙ persons (advice (chain c) t (steps c - length p) A p)
+      where
+        persons : (w : Search (ℕ × ℕ)) → told (λ (a : ℕ × Done). a .0) (told (λ (a : ℕ × ℕ). (a .0, nextDone p (a .1))) w) ≡ record { got = personOf (w .got); trials = w .trials }
+        persons w = go (w .got) (w .trials)
+          where
+            go : (o : Option (ℕ × ℕ)) (n : ℕ) → told (λ (a : ℕ × Done). a .0) (told (λ (a : ℕ × ℕ). (a .0, nextDone p (a .1))) (record { got = o; trials = n })) ≡ record { got = personOf o; trials = n }
+            go none n = refl
+            go (some a) n = refl
 
     pub away-on-board : (t : ℕ) → away onBoard t (steps c - length p) (filledBy p) ≡ awayAt c t p
     unfolding away
@@ -185,7 +196,7 @@ module _ (c : Case) (ready : Ready c) where
   pub static-on-board : (t : ℕ) → static onBoard t (steps c) startFilled ≡ staticOf c t
   static-on-board t = ap (static onBoard t (steps c)) (sym starts) ∙ static-from [] (start-valid c) t (steps c)
 
-  pub one-shot-on-board : (t : ℕ) → oneShot onBoard t (steps c) startFilled ≡ oneShot (chain c) t (steps c) []
+  pub one-shot-on-board : (t : ℕ) → oneShot onBoard t (steps c) startFilled ≡ oneShotOf c t
   one-shot-on-board t = ap (oneShot onBoard t (steps c)) (sym starts) ∙ one-shot-from [] (start-valid c) t (steps c)
 
   pub decremental-on-board : (t : ℕ) → decremental onBoard t (steps c) 0 startFilled ≡ decrementalOf c t

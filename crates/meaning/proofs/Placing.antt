@@ -10,12 +10,12 @@ use borrow.Author.Tests.{eq-eqb, ne-eqb, lt-ltb, le-ltb, ltb-true}
 use lib.Dec.{eqb, ltb}
 use lib.ListN.{length, length-set, length-replicate}
 use lib.Pow.{pow-pos}
-use Rattle.sets.specs.Lists.{pick, all}
-use Rattle.sets.specs.Sets.{has, setOf, members, with}
-use Rattle.sets.proofs.Lists.{mem-all, all-mem, and-false-end}
+use Rattle.sets.specs.Lists.{pick, valueOr, all}
+use Rattle.sets.specs.Sets.{has, setOf, members, lowest}
+use Rattle.sets.proofs.Lists.{and-true, and-false-end, mem-all, all-mem}
 use Rattle.sets.proofs.Bits.{has-empty, has-beyond}
 use Rattle.sets.proofs.Counting.{setOf-lt, has-setOf}
-use Rattle.sets.proofs.Members.{members-in, members-mem}
+use Rattle.sets.proofs.Members.{members-in, members-mem, lowest-is}
 use Rattle.cases.specs.declared.Person.{Person}
 use Rattle.cases.specs.declared.Case.{Case}
 use Rattle.cases.specs.declared.Filled.{Filled}
@@ -32,7 +32,7 @@ use Rattle.laying.specs.declared.Order.the-variants as order
 use Rattle.laying.specs.Laid.{laidOut, preceding}
 use Rattle.laying.specs.Ready.{Ready}
 use Rattle.meaning.specs.Sound.{Formed, Sound}
-use Rattle.meaning.proofs.Means.{no-more, ready-means, fits-means}
+use Rattle.meaning.proofs.Means.{no-more, ready-told, ready-means, fits-means}
 
 -- ---- the start
 
@@ -138,3 +138,36 @@ listed-ready c ready p sound n s first l =
     go (yes e) d = ap₂ (λ (x y : Bool). not x && y) (le-ltb s n (omega arith)) (reached (omega arith)) ∙ sym (eq-eqb s n e)
     go (no e) (yes h) = ap (λ (x : Bool). not x && rest) (lt-ltb s n h) ∙ sym (ne-eqb s n e)
     go (no e) (no h) = ap₂ (λ (x y : Bool). not x && y) (le-ltb s n (omega arith)) (short (omega arith)) ∙ sym (ne-eqb s n e)
+
+-- wherever one comes to, the lowest step that is ready is the only one
+pub listed-one : (c : Case) → Ready c → (p : Filled) → p .steps < 2 ^ mostSteps → (s : ℕ) → s < mostSteps
+    → has (readyOn (laidOut c order.Listed) p) s ≡ true → s ≡ valueOr 32 (lowest 32 (readyOn (laidOut c order.Listed) p))
+unfolding stepsIn
+listed-one c ready p small s l e = sym (ap (valueOr 32) (lowest-is 32 R s (omega arith) e below))
+  where
+    R : ℕ
+    R = readyOn (laidOut c order.Listed) p
+
+    lower : ℕ → ℕ
+    lower y = setOf (λ x. ltb x y) mostSteps
+
+    told : (y : ℕ) → y < mostSteps
+        → has R y ≡ ltb (p .steps) (2 ^ steps c) && (ltb y (steps c) && (not (has (p .steps) y) && all (has (p .steps)) (members mostSteps (lower y))))
+    told y k = ready-told c order.Listed ready p small y k
+
+    -- the steps below one that is ready are filled
+    reached : all (has (p .steps)) (members mostSteps (lower s)) ≡ true
+    reached =
+        and-true (not (has (p .steps) s)) _
+        (and-true (ltb s (steps c)) _ (and-true (ltb (p .steps) (2 ^ steps c)) _ (sym (told s l) ∙ e) .1) .1) .1
+
+    none : (a d f g : Bool) → f ≡ true → a && (d && (not f && g)) ≡ false
+    none a d f g q = ap (λ (x : Bool). a && (d && (not x && g))) q ∙ ap (λ (x : Bool). a && x) (and-false-end d) ∙ and-false-end a
+
+    below : (y : ℕ) → y < s → has R y ≡ false
+    below y h =
+        let k : y < mostSteps = omega arith in
+        told y k
+        ∙ none (ltb (p .steps) (2 ^ steps c)) (ltb y (steps c)) (has (p .steps) y) (all (has (p .steps)) (members mostSteps (lower y)))
+        (all-mem (has (p .steps)) (members mostSteps (lower s)) reached y
+        (members-mem mostSteps (lower s) y k (has-setOf (λ x. ltb x s) mostSteps y k ∙ lt-ltb y s h)))
