@@ -12,7 +12,7 @@ use Rattle.sets.specs.Sets.{has, setOf, with}
 use Rattle.sets.proofs.Lists.{and-true-end, and-false-end, or-false-end}
 use Rattle.sets.proofs.Bits.{has-empty}
 use Rattle.sets.proofs.Counting.{has-setOf, setOf-ext, is-setOf}
-use Rattle.laying.specs.Loops.{Collected}
+use Rattle.laying.specs.Parts.{Collected}
 
 -- what a test comes to, where its parts are known
 pub has-in : (s t v : ℕ) (b : Bool) → b ≡ has s v → s ≡ t → b ≡ has t v
@@ -21,12 +21,12 @@ has-in s t v b e q = e ∙ ap (λ (x : ℕ). has x v) q
 pub both-of : (a x y b : Bool) → b ≡ a && x → x ≡ y → b ≡ a && y
 both-of a x y b e q = e ∙ ap (λ (z : Bool). a && z) q
 
-module _ (test : ℕ → Bool) where
-  pub collect-start : (set : ℕ) → set ≡ 0 → Collected test 0 set
+module _ (test : ℕ → Bool) (w : ℕ) where
+  pub collect-start : (set : ℕ) → set ≡ 0 → Collected test w 0 set
   collect-start set e =
       record {
         upto = omega arith;
-        those = e ∙ is-setOf _ 32 0 (pow-pos 32)
+        those = e ∙ is-setOf _ w 0 (pow-pos w)
             (λ u l. has-empty u ∙ sym (ap (λ (b : Bool). test u && b) (le-ltb u 0 (omega arith)) ∙ and-false-end (test u)));
       }
 
@@ -47,19 +47,28 @@ module _ (test : ℕ → Bool) where
           let same : u ≡ n = omega arith in
           rw (same, q)
 
-  pub collect-step : {n set : ℕ} → Collected test n set → n < 32 → (b : Bool) (set′ : ℕ) → b ≡ test n → set′ ≡ pick b (with 32 set n) set
-      → Collected test (n + 1) set′
+  pub collect-step : {n set : ℕ} → Collected test w n set → n < w → (b : Bool) (set′ : ℕ) → b ≡ test n → set′ ≡ pick b (with w set n) set
+      → Collected test w (n + 1) set′
   collect-step {n} {set} g h b set′ e q = record { upto = omega arith; those = q ∙ go b e }
     where
       those : ℕ → Bool
       those u = test u && ltb u n
 
-      go : (b : Bool) → b ≡ test n → pick b (with 32 set n) set ≡ setOf (λ u. test u && ltb u (n + 1)) 32
+      go : (b : Bool) → b ≡ test n → pick b (with w set n) set ≡ setOf (λ u. test u && ltb u (n + 1)) w
       go true e =
-          setOf-ext _ _ 32 (λ u l.
-          ap (λ (x : Bool). x || eqb u n) (ap (λ (s : ℕ). has s u) (g .those) ∙ has-setOf (λ w. test w && ltb w n) 32 u l)
+          setOf-ext _ _ w (λ u l.
+          ap (λ (x : Bool). x || eqb u n) (ap (λ (s : ℕ). has s u) (g .those) ∙ has-setOf (λ y. test y && ltb y n) w u l)
           ∙ one-more n u true (sym e))
-      go false e = g .those ∙ setOf-ext _ _ 32 (λ u l. one-more n u false (sym e))
+      go false e = g .those ∙ setOf-ext _ _ w (λ u l. one-more n u false (sym e))
 
-  pub collect-end : {n set : ℕ} → Collected test n set → 32 ≤ n → set ≡ setOf test 32
-  collect-end {n} {set} g h = g .those ∙ setOf-ext _ _ 32 (λ u l. ap (λ (b : Bool). test u && b) (lt-ltb u n (omega arith)) ∙ and-true-end (test u))
+  -- nobody from n on passes the test
+  pub collect-end : {n set : ℕ} → Collected test w n set → ((u : ℕ) → u < w → n ≤ u → test u ≡ false) → set ≡ setOf test w
+  collect-end {n} {set} g h = g .those ∙ setOf-ext _ _ w (λ u l. go u l (decLt u n))
+    where
+      go : (u : ℕ) → u < w → Dec (u < n) → test u && ltb u n ≡ test u
+      go u l (yes k) = ap (λ (b : Bool). test u && b) (lt-ltb u n k) ∙ and-true-end (test u)
+      go u l (no k) = ap (λ (b : Bool). b && ltb u n) (h u l (omega arith)) ∙ sym (h u l (omega arith))
+
+  -- everybody was asked
+  pub collect-all : {n set : ℕ} → Collected test w n set → w ≤ n → set ≡ setOf test w
+  collect-all {n} {set} g h = collect-end g (λ u l k. absurd (omega arith))

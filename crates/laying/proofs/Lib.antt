@@ -1,8 +1,10 @@
--- The laws behind the functions of `laying`, and what a board means.
-pub mod Relations
-pub mod Collecting
-pub mod Completing
-pub mod Joined
+-- The laws of laying out, and that the board means the case.
 pub mod Places
-pub mod Means
-pub mod OnBoard
+pub mod Tests
+pub mod Writing
+pub mod Collecting
+pub mod Rows
+pub mod Preceding
+pub mod OffRows
+pub mod OffSets
+pub mod Laying

@@ -1,56 +1,87 @@
 -- A case laid out as a board: what stands at each place.
-use mathlib.Core.Bool.{Bool, not, _&&_}
+use mathlib.Core.Bool.{Bool, not, _&&_, _||_}
 use mathlib.Core.List.{List, _++_}
-use Prim.Native.Nat.{ℕ, _+_, _*_, _/_, _%_}
-use lib.Dec.{ltb}
+use Prim.Native.Nat.{ℕ, _+_, _*_, _/_, _%_, _^_}
+use lib.Dec.{eqb, ltb}
 use lib.ListN.{getD}
-use Rattle.sets.specs.Sets.{setOf}
+use Rattle.sets.specs.Lists.{pick, upto, keep, all}
+use Rattle.sets.specs.Sets.{has, setOf, within}
 use Rattle.sets.specs.Stored.{width}
 use Rattle.words.specs.Part.{table}
 use Rattle.cases.specs.declared.Rule.{Rule}
 use Rattle.cases.specs.declared.Case.{Case}
-use Rattle.cases.specs.Case.{mostSteps, mostRules, zeroRule}
-use Rattle.cases.specs.Rules.{related, filled}
+use Rattle.cases.specs.Case.{mostPeople, mostSteps, mostRules, people, steps, tables, entry, zeroStep, zeroRule}
+use Rattle.cases.specs.Rules.{related}
 use Rattle.cases.specs.Plans.{may}
+use Rattle.boards.specs.Board.{relations, rows, stepSets}
+use Rattle.laying.specs.declared.Order.{Order}
+use Rattle.laying.specs.declared.Order.the-variants as order
 
 -- a rule as one number: form, relation, step s and set X, one byte each from the lowest up
 unfoldable pub packed : Rule → ℕ
 packed r = r .form + (r .relation * 256 + (r .step .0 * 65536 + r .group * 16777216))
 
--- the first n steps are filled
-abbrev pub first : ℕ → ℕ → Bool
-first n x = ltb x n
+-- step x is one of the rule's steps
+unfoldable pub names : Rule → ℕ → Bool
+names r x = eqb (r .step .0) x || has (r .group) x
 
--- step s completes a rule: with the steps up to s all of its steps are filled, and without s they are not
-unfoldable pub completes : Rule → ℕ → Bool
-completes r s = filled r (first (s + 1)) && not (filled r (first s))
+-- the steps of a rule, ascending
+unfoldable pub stepsOf : Rule → List ℕ
+stepsOf r = keep (names r) (upto mostSteps)
 
 module _ (c : Case) where
+  -- u and v are people of the case, k is one of its relations, and (u, v) is in it
+  unfoldable pub pairOf : ℕ → ℕ → ℕ → Bool
+  pairOf k u v = ltb k (tables c + 2) && (ltb u (people c) && (ltb v (people c) && related c k u v))
+
   -- the set of v with (u, v) in relation k, the set of u with (u, v) in it, the set of u with (u, u) in it
   unfoldable pub rowOf : ℕ → ℕ → ℕ
-  rowOf k u = setOf (λ v. related c k u v) width
+  rowOf k u = setOf (λ v. pairOf k u v) width
 
   unfoldable pub columnOf : ℕ → ℕ → ℕ
-  columnOf k v = setOf (λ u. related c k u v) width
+  columnOf k v = setOf (λ u. pairOf k u v) width
 
   unfoldable pub loopsOf : ℕ → ℕ
-  loopsOf k = setOf (λ u. related c k u u) width
-
-  -- entry i of the rules, as one number
-  unfoldable pub packedOf : ℕ → ℕ
-  packedOf i = packed (getD (c .rules) i zeroRule)
-
-  -- the rules in use that step s completes
-  unfoldable pub dueOf : ℕ → ℕ
-  dueOf s = setOf (λ i. ltb i (c .counts .rules) && completes (getD (c .rules) i zeroRule) s) mostRules
+  loopsOf k = setOf (λ u. pairOf k u u) width
 
   -- the people who may do step s
   unfoldable pub allowedOf : ℕ → ℕ
   allowedOf s = setOf (λ u. may c u s) width
 
+  -- the rules in use that name step s
+  unfoldable pub namedOf : ℕ → ℕ
+  namedOf s = setOf (λ i. ltb i (c .counts .rules) && names (getD (c .rules) i zeroRule) s) mostRules
+
+  -- the steps that must precede step s: all lower ones where steps are filled as listed, else those that the case names
+  abbrev pub preceding : Order → ℕ → ℕ
+  preceding order.Listed s = setOf (λ x. ltb x s) mostSteps
+  preceding order.Chosen s = entry zeroStep (steps c) (c .steps) s .before
+
+  unfoldable pub beforeOf : Order → ℕ → ℕ
+  beforeOf o s = pick (ltb s (steps c)) (preceding o s) 0
+
+  -- entry i of the rules, as one number
+  unfoldable pub packedOf : ℕ → ℕ
+  packedOf i = packed (entry zeroRule (c .counts .rules) (c .rules) i)
+
+  -- what is told of a set of steps of the case, 0 of any other
+  abbrev pub ofSteps : ℕ → ℕ → ℕ
+  ofSteps f told = pick (ltb f (2 ^ steps c)) told 0
+
+  -- the steps that may be filled next where those of f are filled: they are not in f, and those that must precede them are
+  unfoldable pub readyOf : Order → ℕ → ℕ
+  readyOf o f = ofSteps f (setOf (λ s. ltb s (steps c) && (not (has f s) && within mostSteps (preceding o s) f)) mostSteps)
+
+  -- the rules in use all of whose steps are in f
+  unfoldable pub completeOf : ℕ → ℕ
+  completeOf f = ofSteps f (setOf (λ i. ltb i (c .counts .rules) && all (has f) (stepsOf (getD (c .rules) i zeroRule))) mostRules)
+
   -- the board, part by part
-  unfoldable pub laidOut : List ℕ
-  laidOut =
-      table (λ i. rowOf (i / 32) (i % 32)) 256
-      ++ (table (λ i. columnOf (i / 32) (i % 32)) 256
-      ++ (table loopsOf 8 ++ (table dueOf mostSteps ++ (table packedOf mostRules ++ table allowedOf mostSteps))))
+  unfoldable pub laidOut : Order → List ℕ
+  laidOut o =
+      table (λ i. rowOf (i / mostPeople) (i % mostPeople)) rows
+      ++ (table (λ i. columnOf (i / mostPeople) (i % mostPeople)) rows
+      ++ (table loopsOf relations
+      ++ (table allowedOf mostSteps
+      ++ (table namedOf mostSteps
+      ++ (table (beforeOf o) mostSteps ++ (table packedOf mostRules ++ (table (readyOf o) stepSets ++ table completeOf stepSets)))))))

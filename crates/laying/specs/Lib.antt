@@ -1,4 +1,4 @@
--- A case laid out as a board, and what a case must give for it; then what the loops here have come to.
+-- A case laid out as a board, and what a case must give for it; then the parts of a board, from what the functions here are lent.
 pub mod Laid
 pub mod Ready
-pub mod Loops
+pub mod Parts

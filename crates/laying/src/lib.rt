@@ -1,222 +1,298 @@
 // Lays a case out as a board, once before a search. It knows what a case means and what stands where on a board; the searches know neither.
+// Each part is put onto the lent board by a function of its own that is lent what it reads; its loops end at the case's counts.
 use boards::ALLOWED;
+use boards::BEFORE;
 use boards::COLUMNS;
-use boards::DUE;
+use boards::COMPLETE;
 use boards::LOOPS;
+use boards::NAMED;
 use boards::PLACES;
-use boards::RELATIONS;
-use boards::ROWS;
+use boards::READY;
 use boards::RULES;
+use boards::STEP_SETS;
 use cases::Case;
 use cases::Rule;
-use cases::everybody_if;
+use cases::Step;
+use cases::StepEntry;
+use cases::with_step;
 use sets::People;
-use sets::past;
+use sets::holds;
 use sets::share;
 use sets::with;
+use sets::within;
 use words::both;
+use words::either;
 ghost use mathlib.Core.Path.{_≡_};
-ghost use Prim.Native.Nat.{_+_, _/_, _%_, _≤_, _<_};
-ghost use lib.ListN.{length};
-ghost use lib.Seq.{paste};
+ghost use Prim.Native.Nat.{_+_, _*_, _^_, _≤_, _<_};
+ghost use lib.ListN.{getD};
 ghost use Rattle.sets.specs.Lists.{pick};
-ghost use Rattle.sets.specs.Sets.{with};
-ghost use Rattle.sets.specs.Stored.{width, number};
+ghost use Rattle.sets.specs.Sets.{with, difference, everybody};
+ghost use Rattle.sets.specs.Stored.{width, number, noPeople};
 ghost use Rattle.words.specs.Part.{table};
-ghost use Rattle.cases.specs.Case.{mostSteps, mostRules, row, rolesHeld, rolesFor};
-ghost use Rattle.cases.specs.Rules.{filled};
-ghost use Rattle.laying.specs.Laid.{packed, first, completes, rowOf, dueOf, packedOf, allowedOf, laidOut};
-ghost use Rattle.laying.specs.Loops.{columnIn, loopsIn};
+ghost use Rattle.cases.specs.Case.{mostPeople, mostSteps, mostTables, mostRules, zeroStep, zeroRule, entry};
+ghost use Rattle.boards.specs.Board.{relations, columnsFrom, loopsFrom, allowedFrom, namedFrom, beforeFrom, rulesFrom, readyFrom, completeFrom};
+ghost use Rattle.laying.specs.Laid.{packed, names, laidOut};
+ghost use Rattle.laying.specs.Ready.{Bounded};
+ghost use Rattle.laying.specs.Parts.{rowIn, columnIn, loopsIn, allowedIn, namedIn, precedingIn, readyIn, namingOnly, completeIn, laidFrom, laidBlocks};
+
+// In which order the steps are filled: as they are listed, or as the desk chooses among those whose preceding steps are filled.
+pub enum Order {
+    Listed,
+    Chosen,
+}
 
 // The board of a case.
-pub fn lay_out(c: Case) -> [u32; PLACES]
-    ensures { λ r. ⌜ r ≡ laidOut c ⌝ }
+pub fn lay_out(c: Case, order: Order) -> [u32; PLACES]
+    requires { ⌜ Bounded (c .counts) ⌝ }
+    ensures { λ r. ⌜ r ≡ laidOut c order ⌝ }
 {
-    let rows = rows(c);
-    let columns = columns(&rows);
-    let loops = loops(&rows);
-    let due = due(c);
-    let rules = rules(c);
-    let allowed = allowed(c);
-    let empty = [0u32; PLACES];
-    let first = put(empty, 0, &rows);
-    let second = put(first, COLUMNS, &columns);
-    let third = put(second, LOOPS, &loops);
-    let fourth = put(third, DUE, &due);
-    let fifth = put(fourth, RULES, &rules);
-    put(fifth, ALLOWED, &allowed)
+    let counts = c.counts;
+    let people = counts.people as u8;
+    let kinds = (counts.tables as u8) + 2;
+    let steps = counts.steps as u8;
+    let rules = counts.rules as u8;
+    let held = c.people;
+    let chain = c.steps;
+    let listed = c.rules;
+    let rows = c.rows;
+    let words = table_words(rows, (counts.tables as usize) * (counts.people as usize));
+    let mut board = [0u32; PLACES];
+    put_rows(&mut board, &words, people, kinds);
+    put_columns(&mut board, people, kinds);
+    put_loops(&mut board, people, kinds);
+    put_allowed(&mut board, &held, people, chain, steps);
+    put_named(&mut board, listed, rules);
+    put_before(&mut board, chain, steps, order);
+    put_rules(&mut board, listed, rules);
+    put_ready(&mut board, steps);
+    put_complete(&mut board, steps, rules);
+    board
 }
 
-// The board with a part of it in its place.
-fn put(board: [u32; PLACES], at: usize, part: &[u32]) -> [u32; PLACES]
-    requires { ⌜ (length board ≡ 568) × (at + length (now part) ≤ 568) ⌝ }
-    ensures { λ r. ⌜ r ≡ paste board at (now (part .entry)) (length (now (part .entry))) ⌝ }
+// The words of the first n table rows, 0 past them.
+fn table_words(rows: [People; Case::ROWS], n: usize) -> [u32; Case::ROWS]
+    requires { ⌜ n ≤ mostTables * mostPeople ⌝ }
+    ensures { λ r. ⌜ r ≡ table (λ i. number (entry noPeople n rows i)) (mostTables * mostPeople) ⌝ }
 {
-    let mut out = board;
+    let mut out = [0u32; Case::ROWS];
     let mut i = 0;
-    while i < part.len() {
-        out[at + i] = part[i];
+    while i < n {
+        let row = rows[i];
+        out[i] = row.word();
         i += 1;
     }
     out
 }
 
-// The rows of the relations, relation by relation, in each one row for each of 32 people.
-fn rows(c: Case) -> [u32; ROWS]
-    ensures { λ r. ⌜ r ≡ table (λ i. rowOf c (i / 32) (i % 32)) 256 ⌝ }
+// The rows, relation by relation.
+fn put_rows(board: &mut [u32; PLACES], words: &[u32; Case::ROWS], people: u8, kinds: u8)
+    requires { ⌜ (people ≤ mostPeople) × (kinds ≤ relations) ⌝ }
+    ensures { λ _. ⌜ now (board .exit) ≡ laidBlocks 0 kinds people (rowIn (now (words .entry)) people) (now (board .entry)) ⌝ }
 {
-    let mut out = [0u32; ROWS];
-    let mut i: u16 = 0;
-    while (i as usize) < ROWS {
-        out[i as usize] = row(c, (i / 32) as u8, (i % 32) as u8).word();
-        i += 1;
+    let mut k: u8 = 0;
+    while k < kinds {
+        put_row(board, words, people, k);
+        k += 1;
     }
-    out
+}
+
+// The rows of relation k, one for each person.
+fn put_row(board: &mut [u32; PLACES], words: &[u32; Case::ROWS], people: u8, k: u8)
+    requires { ⌜ (people ≤ mostPeople) × (k < relations) ⌝ }
+    ensures { λ _. ⌜ now (board .exit) ≡ laidFrom (k * mostPeople) people (rowIn (now (words .entry)) people k) (now (board .entry)) ⌝ }
+{
+    let mut u: u8 = 0;
+    while u < people {
+        board[(k as usize) * Case::PEOPLE + (u as usize)] = row(words, people, k, u).word();
+        u += 1;
+    }
 }
 
 // The people v with (u, v) in relation k: "same person", "different person", then the tables.
-fn row(c: Case, k: u8, u: u8) -> People
-    ensures { λ r. ⌜ number r ≡ rowOf c k u ⌝ }
+fn row(words: &[u32; Case::ROWS], people: u8, k: u8, u: u8) -> People
+    ensures { λ r. ⌜ number r ≡ rowIn (now (words .entry)) people k u ⌝ }
 {
+    let all = People::everybody(people);
     if k == 0 {
-        return People::none().with(u);
+        return all.common(People::none().with(u));
     }
-    let all = everybody_if(true);
     if k == 1 {
         return all.without(u);
     }
-    all.common(table_row(c, k - 2, u))
+    all.common(People::at(words, ((k - 2) as usize) * (people as usize) + (u as usize)))
 }
 
-// Person u's row in table k; nobody where the table or the person is past its count.
-fn table_row(c: Case, k: u8, u: u8) -> People
-    ensures { λ r. ⌜ number r ≡ row c k u ⌝ }
+// The columns, relation by relation, read off the rows.
+fn put_columns(board: &mut [u32; PLACES], people: u8, kinds: u8)
+    requires { ⌜ (people ≤ mostPeople) × (kinds ≤ relations) ⌝ }
+    ensures { λ _. ⌜ now (board .exit) ≡ laidBlocks columnsFrom kinds people (columnIn (now (board .entry)) people) (now (board .entry)) ⌝ }
 {
-    let people = c.counts.people as usize;
-    let tables = c.counts.tables as usize;
-    let at = (k as usize) * people + (u as usize);
-    if people <= (u as usize) {
-        return People::none();
+    let mut k: u8 = 0;
+    while k < kinds {
+        put_column(board, people, k);
+        k += 1;
     }
-    if tables * people <= at {
-        return People::none();
-    }
-    if Case::ROWS <= at {
-        return People::none();
-    }
-    c.rows[at]
 }
 
-// The columns of the relations: for each relation and person v the people whose row has v.
-fn columns(rows: &[u32; ROWS]) -> [u32; ROWS]
-    ensures { λ r. ⌜ r ≡ table (λ i. columnIn (now (rows .entry)) (i / 32) (i % 32)) 256 ⌝ }
+// The columns of relation k, one for each person.
+fn put_column(board: &mut [u32; PLACES], people: u8, k: u8)
+    requires { ⌜ (people ≤ mostPeople) × (k < relations) ⌝ }
+    ensures { λ _. ⌜ now (board .exit) ≡ laidFrom (columnsFrom + k * mostPeople) people (columnIn (now (board .entry)) people k) (now (board .entry)) ⌝ }
 {
-    let mut out = [0u32; ROWS];
-    let mut i: u16 = 0;
-    while (i as usize) < ROWS {
-        out[i as usize] = column(rows, (i / 32) as u8, (i % 32) as u8).word();
-        i += 1;
+    let mut v: u8 = 0;
+    while v < people {
+        let set = column(board, people, k, v);
+        board[COLUMNS + (k as usize) * Case::PEOPLE + (v as usize)] = set.word();
+        v += 1;
     }
-    out
 }
 
 // The people whose row in relation k has v.
-fn column(rows: &[u32; ROWS], k: u8, v: u8) -> People
-    ensures { λ r. ⌜ number r ≡ columnIn (now (rows .entry)) k v ⌝ }
+fn column(board: &[u32; PLACES], people: u8, k: u8, v: u8) -> People
+    requires { ⌜ people ≤ mostPeople ⌝ }
+    ensures { λ r. ⌜ number r ≡ columnIn (now (board .entry)) people k v ⌝ }
 {
     let mut set = People::none();
     let mut u: u8 = 0;
-    while u < People::WIDTH {
-        let wanted = People::at(rows, (k as usize) * 32 + (u as usize)).has(v);
-        set = with_if(set, u, wanted);
+    while u < people {
+        let row = People::at(board, (k as usize) * Case::PEOPLE + (u as usize));
+        set = with_if(set, u, row.has(v));
         u += 1;
     }
     set
 }
 
-// For each relation the people who are in it with themselves.
-fn loops(rows: &[u32; ROWS]) -> [u32; RELATIONS]
-    ensures { λ r. ⌜ r ≡ table (loopsIn (now (rows .entry))) 8 ⌝ }
+// For each relation the people who are in it with themselves, read off the rows.
+fn put_loops(board: &mut [u32; PLACES], people: u8, kinds: u8)
+    requires { ⌜ (people ≤ mostPeople) × (kinds ≤ relations) ⌝ }
+    ensures { λ _. ⌜ now (board .exit) ≡ laidFrom loopsFrom kinds (loopsIn (now (board .entry)) people) (now (board .entry)) ⌝ }
 {
-    let mut out = [0u32; RELATIONS];
     let mut k: u8 = 0;
-    while (k as usize) < RELATIONS {
-        out[k as usize] = loops_of(rows, k).word();
+    while k < kinds {
+        let set = loops(board, people, k);
+        board[LOOPS + (k as usize)] = set.word();
         k += 1;
     }
-    out
 }
 
 // The people whose row in relation k has themselves.
-fn loops_of(rows: &[u32; ROWS], k: u8) -> People
-    ensures { λ r. ⌜ number r ≡ loopsIn (now (rows .entry)) k ⌝ }
+fn loops(board: &[u32; PLACES], people: u8, k: u8) -> People
+    requires { ⌜ people ≤ mostPeople ⌝ }
+    ensures { λ r. ⌜ number r ≡ loopsIn (now (board .entry)) people k ⌝ }
 {
     let mut set = People::none();
     let mut u: u8 = 0;
-    while u < People::WIDTH {
-        let wanted = People::at(rows, (k as usize) * 32 + (u as usize)).has(u);
-        set = with_if(set, u, wanted);
+    while u < people {
+        let row = People::at(board, (k as usize) * Case::PEOPLE + (u as usize));
+        set = with_if(set, u, row.has(u));
         u += 1;
     }
     set
 }
 
-// For each step the rules that it completes.
-fn due(c: Case) -> [u32; Case::STEPS]
-    ensures { λ r. ⌜ r ≡ table (dueOf c) mostSteps ⌝ }
+// For each step the people who may do it.
+fn put_allowed(
+    board: &mut [u32; PLACES],
+    held: &[u16; Case::PEOPLE],
+    people: u8,
+    steps: [StepEntry; Case::STEPS],
+    n: u8,
+)
+    requires { ⌜ (people ≤ mostPeople) × (n ≤ mostSteps) ⌝ }
+    ensures { λ _. ⌜ now (board .exit) ≡ laidFrom allowedFrom n (λ s. allowedIn (now (held .entry)) people (getD steps s zeroStep .roles)) (now (board .entry)) ⌝ }
 {
-    let mut out = [0u32; Case::STEPS];
     let mut s: u8 = 0;
-    while (s as usize) < Case::STEPS {
-        out[s as usize] = due_at(c, s);
+    while s < n {
+        let step = steps[s as usize];
+        board[ALLOWED + (s as usize)] = allowed(held, people, step.roles).word();
         s += 1;
     }
-    out
 }
 
-// The rules in use that step s completes.
-fn due_at(c: Case, s: u8) -> u32
-    requires { ⌜ s < 8 ⌝ }
-    ensures { λ r. ⌜ r ≡ dueOf c s ⌝ }
+// The people one of whose roles is wanted.
+fn allowed(held: &[u16; Case::PEOPLE], people: u8, wanted: u16) -> People
+    requires { ⌜ people ≤ mostPeople ⌝ }
+    ensures { λ r. ⌜ number r ≡ allowedIn (now (held .entry)) people wanted ⌝ }
 {
-    let mut set = 0;
+    let mut set = People::none();
+    let mut u: u8 = 0;
+    while u < people {
+        set = with_if(set, u, share(held[u as usize], wanted));
+        u += 1;
+    }
+    set
+}
+
+// For each step the rules that name it.
+fn put_named(board: &mut [u32; PLACES], rules: [Rule; Case::RULES], n: u8)
+    requires { ⌜ n ≤ mostRules ⌝ }
+    ensures { λ _. ⌜ now (board .exit) ≡ laidFrom namedFrom mostSteps (namedIn rules n) (now (board .entry)) ⌝ }
+{
+    let mut s: u8 = 0;
+    while (s as usize) < Case::STEPS {
+        board[NAMED + (s as usize)] = named(rules, n, s);
+        s += 1;
+    }
+}
+
+// The first n rules that name step s.
+fn named(rules: [Rule; Case::RULES], n: u8, s: u8) -> u32
+    requires { ⌜ n ≤ mostRules ⌝ }
+    ensures { λ r. ⌜ r ≡ namedIn rules n s ⌝ }
+{
+    let mut set: u32 = 0;
     let mut i: u8 = 0;
-    while (i as usize) < Case::RULES {
-        let rule = c.rules[i as usize];
-        let wanted = both((i as u16) < c.counts.rules, completes(rule, s));
-        set = with_rule_if(set, i, wanted);
+    while i < n {
+        let rule = rules[i as usize];
+        set = with_rule_if(set, i, names(rule, s));
         i += 1;
     }
     set
 }
 
-// Does step s complete a rule?
-fn completes(rule: Rule, s: u8) -> bool
-    requires { ⌜ s < 8 ⌝ }
-    ensures { λ r. ⌜ r ≡ completes rule s ⌝ }
+// Does a rule name step s?
+fn names(rule: Rule, s: u8) -> bool
+    ensures { λ r. ⌜ r ≡ names rule s ⌝ }
 {
-    both(filled(rule, s + 1), !filled(rule, s))
+    let own = rule.step.0;
+    either(own == s, holds(rule.group as u16, s))
 }
 
-// Are a rule's steps among the first n?
-fn filled(rule: Rule, n: u8) -> bool
-    ensures { λ r. ⌜ r ≡ filled rule (first n) ⌝ }
+// For each step those that must precede it.
+fn put_before(board: &mut [u32; PLACES], steps: [StepEntry; Case::STEPS], n: u8, order: Order)
+    requires { ⌜ n ≤ mostSteps ⌝ }
+    ensures { λ _. ⌜ now (board .exit) ≡ laidFrom beforeFrom n (λ s. precedingIn (getD steps s zeroStep) order s) (now (board .entry)) ⌝ }
 {
-    both(rule.step.0 < n, !past(rule.group as u16, n as u16))
+    let mut s: u8 = 0;
+    while s < n {
+        let step = steps[s as usize];
+        board[BEFORE + (s as usize)] = before(step, order, s) as u32;
+        s += 1;
+    }
+}
+
+// The steps that must precede step s: as listed, all lower ones.
+fn before(step: StepEntry, order: Order, s: u8) -> u8
+    requires { ⌜ s < mostSteps ⌝ }
+    ensures { λ r. ⌜ r ≡ precedingIn step order s ⌝ }
+{
+    match order {
+        Order::Listed => (1 << s) - 1,
+        Order::Chosen => step.before,
+    }
 }
 
 // The rules, each as one number.
-fn rules(c: Case) -> [u32; Case::RULES]
-    ensures { λ r. ⌜ r ≡ table (packedOf c) mostRules ⌝ }
+fn put_rules(board: &mut [u32; PLACES], rules: [Rule; Case::RULES], n: u8)
+    requires { ⌜ n ≤ mostRules ⌝ }
+    ensures { λ _. ⌜ now (board .exit) ≡ laidFrom rulesFrom n (λ i. packed (getD rules i zeroRule)) (now (board .entry)) ⌝ }
 {
-    let mut out = [0u32; Case::RULES];
     let mut i: u8 = 0;
-    while (i as usize) < Case::RULES {
-        let rule = c.rules[i as usize];
-        out[i as usize] = pack(rule);
+    while i < n {
+        let rule = rules[i as usize];
+        board[RULES + (i as usize)] = pack(rule);
         i += 1;
     }
-    out
 }
 
 // A rule as one number, which a board's reader takes apart again.
@@ -228,56 +304,69 @@ fn pack(rule: Rule) -> u32
         + ((rule.relation as u32) * 256 + ((step as u32) * 65536 + (rule.group as u32) * 16777216))
 }
 
-// For each step the people who may do it.
-fn allowed(c: Case) -> [u32; Case::STEPS]
-    ensures { λ r. ⌜ r ≡ table (allowedOf c) mostSteps ⌝ }
+// For each set of the n steps those that may be filled next where these are filled.
+fn put_ready(board: &mut [u32; PLACES], n: u8)
+    requires { ⌜ n ≤ mostSteps ⌝ }
+    ensures { λ _. ⌜ now (board .exit) ≡ laidFrom readyFrom (2 ^ n) (readyIn (now (board .entry)) n) (now (board .entry)) ⌝ }
 {
-    let mut out = [0u32; Case::STEPS];
-    let mut s: u8 = 0;
-    while (s as usize) < Case::STEPS {
-        out[s as usize] = allowed_at(c, s).word();
-        s += 1;
+    let many: u16 = 1 << n;
+    let mut f: u16 = 0;
+    while f < many {
+        let set = ready(board, n, f);
+        board[READY + (f as usize)] = set as u32;
+        f += 1;
     }
-    out
 }
 
-// The people one of whose roles is among those of step s.
-fn allowed_at(c: Case, s: u8) -> People
-    requires { ⌜ s < 8 ⌝ }
-    ensures { λ r. ⌜ number r ≡ allowedOf c s ⌝ }
+// Of the n steps those that are not in f, where those that must precede them are.
+fn ready(board: &[u32; PLACES], n: u8, f: u16) -> u8
+    requires { ⌜ n ≤ mostSteps ⌝ }
+    ensures { λ r. ⌜ r ≡ readyIn (now (board .entry)) n f ⌝ }
 {
-    let wanted = roles_for(c, s);
-    let mut set = People::none();
-    let mut u: u8 = 0;
-    while u < People::WIDTH {
-        set = with_if(set, u, share(roles_held(c, u), wanted));
-        u += 1;
+    let mut set: u8 = 0;
+    let mut s: u8 = 0;
+    while s < n {
+        let before = board[BEFORE + (s as usize)] % (STEP_SETS as u32);
+        set = with_step_if(set, s, both(!holds(f, s), within(before, f as u32)));
+        s += 1;
     }
     set
 }
 
-// The roles that person u holds; none past the count.
-fn roles_held(c: Case, u: u8) -> u16
-    requires { ⌜ u < 32 ⌝ }
-    ensures { λ r. ⌜ r ≡ rolesHeld c u ⌝ }
+// For each set of the n steps the rules in use that name no other step.
+fn put_complete(board: &mut [u32; PLACES], n: u8, rules: u8)
+    requires { ⌜ (n ≤ mostSteps) × (rules ≤ mostRules) ⌝ }
+    ensures { λ _. ⌜ now (board .exit) ≡ laidFrom completeFrom (2 ^ n) (completeIn (now (board .entry)) rules) (now (board .entry)) ⌝ }
 {
-    if (u as u16) < c.counts.people {
-        c.people[u as usize]
-    } else {
-        0
+    let used = first_rules(rules);
+    let many: u16 = 1 << n;
+    let mut f: u16 = 0;
+    while f < many {
+        let set = complete(board, used, f);
+        board[COMPLETE + (f as usize)] = set;
+        f += 1;
     }
 }
 
-// The roles that may do step s; none past the count.
-fn roles_for(c: Case, s: u8) -> u16
-    requires { ⌜ s < 8 ⌝ }
-    ensures { λ r. ⌜ r ≡ rolesFor c s ⌝ }
+// The first n rules.
+fn first_rules(n: u8) -> u32
+    requires { ⌜ n ≤ mostRules ⌝ }
+    ensures { λ r. ⌜ r ≡ everybody mostRules n ⌝ }
 {
-    if (s as u16) < c.counts.steps {
-        c.steps[s as usize].roles
-    } else {
-        0
+    if n < 32 { (1 << n) - 1 } else { u32::MAX }
+}
+
+// Of the rules in use those that name no step outside f.
+fn complete(board: &[u32; PLACES], used: u32, f: u16) -> u32
+    ensures { λ r. ⌜ r ≡ namingOnly (now (board .entry)) used f mostSteps ⌝ }
+{
+    let mut set = used;
+    let mut s: u8 = 0;
+    while (s as usize) < Case::STEPS {
+        set = less_unless(set, board[NAMED + (s as usize)], holds(f, s));
+        s += 1;
     }
+    set
 }
 
 // The set with person u, where they are wanted.
@@ -289,7 +378,21 @@ fn with_if(set: People, u: u8, wanted: bool) -> People
 
 // The set with rule i, where it is wanted.
 fn with_rule_if(set: u32, i: u8, wanted: bool) -> u32
-    ensures { λ r. ⌜ r ≡ pick wanted (with 32 set i) set ⌝ }
+    ensures { λ r. ⌜ r ≡ pick wanted (with mostRules set i) set ⌝ }
 {
     if wanted { with(set, i) } else { set }
+}
+
+// The set of steps with step s, where it is wanted.
+fn with_step_if(set: u8, s: u8, wanted: bool) -> u8
+    ensures { λ r. ⌜ r ≡ pick wanted (with mostSteps set s) set ⌝ }
+{
+    if wanted { with_step(set, Step(s)) } else { set }
+}
+
+// The set without those that are gone, unless they stay.
+fn less_unless(set: u32, gone: u32, stay: bool) -> u32
+    ensures { λ r. ⌜ r ≡ pick stay set (difference mostRules set gone) ⌝ }
+{
+    if stay { set } else { set & !gone }
 }

@@ -1,52 +1,61 @@
-use mathlib.Core.Path.{refl, _∙_}
+use mathlib.Core.Path.{ap, _∙_}
+use mathlib.Core.Bool.{_&&_}
 use Prim.Native.Nat.{_-_}
+use lib.Dec.{ltb}
+use lib.ListN.{getD}
+use Rattle.sets.specs.Sets.{meets}
+use Rattle.sets.specs.Stored.{width, number}
+use Rattle.sets.proofs.Records.{number-none}
+use Rattle.cases.specs.Case.{mostRoles}
+use Rattle.laying.specs.Parts.{Collected}
+use Rattle.laying.specs.Parts.{allowedIn}
+use Rattle.laying.proofs.Rows.{among-start, among-step, among-end}
 use native.Mathlib.Omega.{arith}
 use borrow.Author.Needs.{needs}
-use Rattle.words.specs.Part.{Filled}
-use Rattle.words.proofs.Parts.{fill-start, fill-step, fill-end}
-use Rattle.laying.specs.Laid.{allowedOf}
 use Rattle.laying.proofs.allowed.Statement.{statement}
 use Rattle.laying.proofs.allowed.Tie as tie
 
 abbrev Inv-loop : tie.InvT-loop
-Inv-loop c out₀ s₀ out s = Filled (allowedOf c) 8 s out
+Inv-loop held people wanted set₀ u₀ set u = Collected (λ j. ltb j people && meets mostRoles (getD held j 0) wanted) width u (number set)
 
 abbrev μ-loop : tie.MeasureT-loop
-μ-loop c out₀ s₀ out s = 8 - s
+μ-loop held people wanted set₀ u₀ set u = people - u
+
+none-requires : tie.Need-none-requires Inv-loop μ-loop
+none-requires c κs = search needs
 
 loop-holds : tie.Need-loop-holds Inv-loop μ-loop
-loop-holds c = fill-start _ _ _ refl
+loop-holds c = among-start _ width _ _ (ap number (c .none .ensures) ∙ number-none)
 
-cast-loop : tie.Need-cast-loop Inv-loop μ-loop
-cast-loop c = omega arith
+cast-share : tie.Need-cast-share Inv-loop μ-loop
+cast-share c = omega arith
 
-allowed-at-requires : tie.Need-allowed-at-requires Inv-loop μ-loop
-allowed-at-requires c κs = search needs
+mul-share : tie.Need-mul-share Inv-loop μ-loop
+mul-share c = omega arith
 
-word-requires : tie.Need-word-requires Inv-loop μ-loop
-word-requires c κs = search needs
+element-copy-out-share : tie.Need-element-copy-out-share Inv-loop μ-loop
+element-copy-out-share c = omega arith
 
-cast-out : tie.Need-cast-out Inv-loop μ-loop
-cast-out c = omega arith
+share-requires : tie.Need-share-requires Inv-loop μ-loop
+share-requires c κs = search needs
 
-mul-out : tie.Need-mul-out Inv-loop μ-loop
-mul-out c = omega arith
+with-if-requires : tie.Need-with-if-requires Inv-loop μ-loop
+with-if-requires c κs = search needs
 
-array-write-out : tie.Need-array-write-out Inv-loop μ-loop
-array-write-out c = omega arith
-
-add-s : tie.Need-add-s Inv-loop μ-loop
-add-s c = omega arith
+add-u : tie.Need-add-u Inv-loop μ-loop
+add-u c = omega arith
 
 loop-less : tie.Need-loop-less Inv-loop μ-loop
 loop-less c = omega arith
 
 loop-again : tie.Need-loop-again Inv-loop μ-loop
-loop-again c = fill-step _ _ (c .before .before .before .loop .inv) (c .before .before .loop-test .taken)
-    (c .word .ensures ∙ c .before .allowed-at .ensures)
+loop-again c =
+    among-step _ width _ (c .before .before .before .before .loop .inv) (c .before .before .before .loop-test .taken) (omega arith) _ _
+    (c .before .share .ensures) (c .with-if .ensures)
 
 returns : tie.Need-returns Inv-loop μ-loop
-returns c = fill-end _ _ (c .before .loop .inv) (c .loop-test .left)
+unfolding allowedIn
+returns c = among-end _ width _ (c .before .loop .inv) (c .loop-test .left)
 
 pub allowed-spec : {M : Type 1} → statement M
 allowed-spec =
@@ -54,14 +63,14 @@ allowed-spec =
     (tie.spec
     Inv-loop
     μ-loop
+    none-requires
     loop-holds
-    cast-loop
-    allowed-at-requires
-    word-requires
-    cast-out
-    mul-out
-    array-write-out
-    add-s
+    cast-share
+    mul-share
+    element-copy-out-share
+    share-requires
+    with-if-requires
+    add-u
     loop-less
     loop-again
     returns)

@@ -1,27 +1,31 @@
 use mathlib.Core.Path.{ap, _∙_}
+use mathlib.Core.Bool.{_&&_}
 use Prim.Native.Nat.{_-_}
+use lib.Dec.{ltb}
+use Rattle.sets.specs.Sets.{has}
+use Rattle.sets.specs.Stored.{width, number, setAt}
+use Rattle.boards.specs.Board.{rowPlace}
+use Rattle.sets.proofs.Records.{number-none}
+use Rattle.laying.specs.Parts.{Collected}
+use Rattle.laying.proofs.Collecting.{has-in}
+use Rattle.laying.specs.Parts.{columnIn}
+use Rattle.laying.proofs.Rows.{among-start, among-step, among-end}
 use native.Mathlib.Omega.{arith}
 use borrow.Author.Needs.{needs}
-use Rattle.sets.specs.Sets.{has}
-use Rattle.sets.specs.Stored.{number, setAt}
-use Rattle.sets.proofs.Records.{number-none}
-use Rattle.boards.specs.Board.{rowPlace}
-use Rattle.laying.specs.Loops.{columnIn, Collected}
-use Rattle.laying.proofs.Collecting.{has-in, collect-start, collect-step, collect-end}
 use Rattle.laying.proofs.column.Statement.{statement}
 use Rattle.laying.proofs.column.Tie as tie
 
 abbrev Inv-loop : tie.InvT-loop
-Inv-loop rows k v set₀ u₀ set u = Collected (λ w. has (setAt rows (rowPlace k w)) v) u (number set)
+Inv-loop board people k v set₀ u₀ set u = Collected (λ j. ltb j people && (has (setAt board (rowPlace k j)) v)) width u (number set)
 
 abbrev μ-loop : tie.MeasureT-loop
-μ-loop rows k v set₀ u₀ set u = 32 - u
+μ-loop board people k v set₀ u₀ set u = people - u
 
 none-requires : tie.Need-none-requires Inv-loop μ-loop
 none-requires c κs = search needs
 
 loop-holds : tie.Need-loop-holds Inv-loop μ-loop
-loop-holds c = collect-start _ _ (ap number (c .none .ensures) ∙ number-none)
+loop-holds c = among-start _ width _ _ (ap number (c .none .ensures) ∙ number-none)
 
 mul-at : tie.Need-mul-at Inv-loop μ-loop
 mul-at c = omega arith
@@ -49,12 +53,12 @@ loop-less c = omega arith
 
 loop-again : tie.Need-loop-again Inv-loop μ-loop
 loop-again c =
-    collect-step _ (c .before .before .before .before .before .loop .inv) (c .before .before .before .before .loop-test .taken) _ _
+    among-step _ width _ (c .before .before .before .before .before .loop .inv) (c .before .before .before .before .loop-test .taken) (omega arith) _ _
     (has-in _ _ _ _ (c .before .has .ensures) (c .before .before .at .ensures)) (c .with-if .ensures)
 
 returns : tie.Need-returns Inv-loop μ-loop
 unfolding columnIn
-returns c = collect-end _ (c .before .loop .inv) (c .loop-test .left)
+returns c = among-end _ width _ (c .before .loop .inv) (c .loop-test .left)
 
 pub column-spec : {M : Type 1} → statement M
 column-spec =

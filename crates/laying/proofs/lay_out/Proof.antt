@@ -1,94 +1,115 @@
 use mathlib.Core.Path.{refl}
-use Rattle.laying.proofs.Places.{laid}
+use native.Mathlib.Omega.{arith}
+use Rattle.laying.proofs.Laying.{rows-few, laid}
 use borrow.Author.Needs.{needs}
 use Rattle.laying.proofs.lay_out.Statement.{statement}
 use Rattle.laying.proofs.lay_out.Tie as tie
 
-rows-requires : tie.Need-rows-requires
-rows-requires c κs = search needs
+cast-people : tie.Need-cast-people
+cast-people c = search needs
 
-columns-requires : tie.Need-columns-requires
-columns-requires c κs = search needs
+cast-kinds : tie.Need-cast-kinds
+cast-kinds c = search needs
 
-loops-requires : tie.Need-loops-requires
-loops-requires c κs = search needs
+add-kinds : tie.Need-add-kinds
+add-kinds c = search needs
 
-due-requires : tie.Need-due-requires
-due-requires c κs = search needs
+cast-steps : tie.Need-cast-steps
+cast-steps c = search needs
 
-rules-requires : tie.Need-rules-requires
-rules-requires c κs = search needs
+cast-rules : tie.Need-cast-rules
+cast-rules c = search needs
 
-allowed-requires : tie.Need-allowed-requires
-allowed-requires c κs = search needs
+cast-table-words : tie.Need-cast-table-words
+cast-table-words c = search needs
 
-slice-aggregate-put : tie.Need-slice-aggregate-put
-slice-aggregate-put c = search needs
+cast-table-words-2 : tie.Need-cast-table-words-2
+cast-table-words-2 c = search needs
 
-put-requires : tie.Need-put-requires
-put-requires c κs = search needs
+mul-table-words : tie.Need-mul-table-words
+mul-table-words c =
+    let a = c .before .before .before .before .before .before .before .before .before .before .before in
+    omega (arith, rows-few (a .args .c .counts .tables) (a .args .c .counts .people) (a .pre .tables) (a .pre .people))
 
-slice-aggregate-put-2 : tie.Need-slice-aggregate-put-2
-slice-aggregate-put-2 c = search needs
+table-words-requires : tie.Need-table-words-requires
+table-words-requires c κs =
+    let a = c .before .before .before .before .before .before .before .before .before .before .before in
+    rows-few (a .args .c .counts .tables) (a .args .c .counts .people) (a .pre .tables) (a .pre .people)
 
-put-requires-2 : tie.Need-put-requires-2
-put-requires-2 c κs = search needs
+put-rows-requires : tie.Need-put-rows-requires
+put-rows-requires c κs = search needs
 
-slice-aggregate-put-3 : tie.Need-slice-aggregate-put-3
-slice-aggregate-put-3 c = search needs
+put-columns-requires : tie.Need-put-columns-requires
+put-columns-requires c κs = search needs
 
-put-requires-3 : tie.Need-put-requires-3
-put-requires-3 c κs = search needs
+put-loops-requires : tie.Need-put-loops-requires
+put-loops-requires c κs = search needs
 
-slice-aggregate-put-4 : tie.Need-slice-aggregate-put-4
-slice-aggregate-put-4 c = search needs
+put-allowed-requires : tie.Need-put-allowed-requires
+put-allowed-requires c κs = search needs
 
-put-requires-4 : tie.Need-put-requires-4
-put-requires-4 c κs = search needs
+put-named-requires : tie.Need-put-named-requires
+put-named-requires c κs =
+    let words = c .before .before .before .before .before .before .before .before .before .before .before in
+    words .before .before .before .before .before .before .before .before .before .before .before .before .pre .rules
 
-slice-aggregate-put-5 : tie.Need-slice-aggregate-put-5
-slice-aggregate-put-5 c = search needs
+put-before-requires : tie.Need-put-before-requires
+put-before-requires c κs =
+    let words = c .before .before .before .before .before .before .before .before .before .before .before .before .before in
+    words .before .before .before .before .before .before .before .before .before .before .before .before .pre .steps
 
-put-requires-5 : tie.Need-put-requires-5
-put-requires-5 c κs = search needs
+put-rules-requires : tie.Need-put-rules-requires
+put-rules-requires c κs =
+    let words = c .before .before .before .before .before .before .before .before .before .before .before .before .before .before .before in
+    words .before .before .before .before .before .before .before .before .before .before .before .before .pre .rules
 
-slice-aggregate-put-6 : tie.Need-slice-aggregate-put-6
-slice-aggregate-put-6 c = search needs
+put-ready-requires : tie.Need-put-ready-requires
+put-ready-requires c κs =
+    let words = c .before .before .before .before .before .before .before .before .before .before .before .before .before .before .before .before .before in
+    words .before .before .before .before .before .before .before .before .before .before .before .before .pre .steps
 
-put-requires-6 : tie.Need-put-requires-6
-put-requires-6 c κs = search needs
+put-complete-requires : tie.Need-put-complete-requires
+put-complete-requires c κs =
+    let words = c .before .before .before .before .before .before .before .before .before .before .before .before .before .before .before .before .before .before .before in
+    let start = words .before .before .before .before .before .before .before .before .before .before .before .before in
+    (start .pre .steps, start .pre .rules)
 
 returns : tie.Need-returns
 returns c =
-    let made = c .before .before .before .before .before .before .before .before .before .before .before .before in
-    laid _ _ _ _ _ _ _ _ _ _ _ _ _ _ (made .before .before .before .before .before .before .before .rows .ensures)
-    (made .before .before .before .before .before .columns .ensures)
-    (made .before .before .before .loops .ensures) (made .before .before .due .ensures) (made .before .rules .ensures) (made .allowed .ensures) refl
-    (c .before .before .before .before .before .before .before .before .before .before .put .ensures)
-    (c .before .before .before .before .before .before .before .before .put2 .ensures)
-    (c .before .before .before .before .before .before .put3 .ensures) (c .before .before .before .before .put4 .ensures)
-    (c .before .before .put5 .ensures) (c .put6 .ensures)
+    let ready = c .before .before in
+    let rules = ready .before .before in
+    let before = rules .before .before in
+    let named = before .before .before in
+    let allowed = named .before .before in
+    let loops = allowed .before .before .before in
+    let columns = loops .before .before in
+    let rows = columns .before .before in
+    let words = rows .before .before .before in
+    let start = words .before .before .before .before .before .before .before .before .before .before .before .before in
+    laid (start .args .c) (start .args .order) (start .pre) _ _ _ _ _ _ _ _ _ _ _ (words .table-words .ensures) refl (rows .put-rows .ensures)
+    (columns .put-columns .ensures) (loops .put-loops .ensures) (allowed .put-allowed .ensures) (named .put-named .ensures)
+    (before .put-before .ensures) (rules .put-rules .ensures) (ready .put-ready .ensures) (c .put-complete .ensures)
 
 pub lay-out-spec : {M : Type 1} → statement M
 lay-out-spec =
     tie.close
     (tie.spec
-    rows-requires
-    columns-requires
-    loops-requires
-    due-requires
-    rules-requires
-    allowed-requires
-    slice-aggregate-put
-    put-requires
-    slice-aggregate-put-2
-    put-requires-2
-    slice-aggregate-put-3
-    put-requires-3
-    slice-aggregate-put-4
-    put-requires-4
-    slice-aggregate-put-5
-    put-requires-5
-    slice-aggregate-put-6
-    put-requires-6
+    cast-people
+    cast-kinds
+    add-kinds
+    cast-steps
+    cast-rules
+    cast-table-words
+    cast-table-words-2
+    mul-table-words
+    table-words-requires
+    put-rows-requires
+    put-columns-requires
+    put-loops-requires
+    put-allowed-requires
+    put-named-requires
+    put-before-requires
+    put-rules-requires
+    put-ready-requires
+    put-complete-requires
     returns)

@@ -1,52 +1,64 @@
-use mathlib.Core.Path.{refl, _∙_}
+use mathlib.Core.Path.{ap, _∙_}
+use mathlib.Core.Bool.{_&&_}
 use Prim.Native.Nat.{_-_}
+use lib.Dec.{ltb}
+use Rattle.sets.specs.Sets.{has}
+use Rattle.sets.specs.Stored.{width, number, setAt}
+use Rattle.boards.specs.Board.{rowPlace}
+use Rattle.sets.proofs.Records.{number-none}
+use Rattle.laying.specs.Parts.{Collected}
+use Rattle.laying.proofs.Collecting.{has-in}
+use Rattle.laying.specs.Parts.{loopsIn}
+use Rattle.laying.proofs.Rows.{among-start, among-step, among-end}
 use native.Mathlib.Omega.{arith}
 use borrow.Author.Needs.{needs}
-use Rattle.words.specs.Part.{Filled}
-use Rattle.words.proofs.Parts.{fill-start, fill-step, fill-end}
-use Rattle.laying.specs.Loops.{loopsIn}
 use Rattle.laying.proofs.loops.Statement.{statement}
 use Rattle.laying.proofs.loops.Tie as tie
 
 abbrev Inv-loop : tie.InvT-loop
-Inv-loop rows out₀ k₀ out k = Filled (loopsIn rows) 8 k out
+Inv-loop board people k set₀ u₀ set u = Collected (λ j. ltb j people && (has (setAt board (rowPlace k j)) j)) width u (number set)
 
 abbrev μ-loop : tie.MeasureT-loop
-μ-loop rows out₀ k₀ out k = 8 - k
+μ-loop board people k set₀ u₀ set u = people - u
+
+none-requires : tie.Need-none-requires Inv-loop μ-loop
+none-requires c κs = search needs
 
 loop-holds : tie.Need-loop-holds Inv-loop μ-loop
-loop-holds c = fill-start _ _ _ refl
+loop-holds c = among-start _ width _ _ (ap number (c .none .ensures) ∙ number-none)
 
-cast-loop : tie.Need-cast-loop Inv-loop μ-loop
-cast-loop c = omega arith
+mul-at : tie.Need-mul-at Inv-loop μ-loop
+mul-at c = omega arith
 
-loops-of-requires : tie.Need-loops-of-requires Inv-loop μ-loop
-loops-of-requires c κs = search needs
+cast-at : tie.Need-cast-at Inv-loop μ-loop
+cast-at c = omega arith
 
-word-requires : tie.Need-word-requires Inv-loop μ-loop
-word-requires c κs = search needs
+add-at : tie.Need-add-at Inv-loop μ-loop
+add-at c = omega arith
 
-cast-out : tie.Need-cast-out Inv-loop μ-loop
-cast-out c = omega arith
+at-requires : tie.Need-at-requires Inv-loop μ-loop
+at-requires c κs = search needs
 
-mul-out : tie.Need-mul-out Inv-loop μ-loop
-mul-out c = omega arith
+has-requires : tie.Need-has-requires Inv-loop μ-loop
+has-requires c κs = search needs
 
-array-write-out : tie.Need-array-write-out Inv-loop μ-loop
-array-write-out c = omega arith
+with-if-requires : tie.Need-with-if-requires Inv-loop μ-loop
+with-if-requires c κs = search needs
 
-add-k : tie.Need-add-k Inv-loop μ-loop
-add-k c = omega arith
+add-u : tie.Need-add-u Inv-loop μ-loop
+add-u c = omega arith
 
 loop-less : tie.Need-loop-less Inv-loop μ-loop
 loop-less c = omega arith
 
 loop-again : tie.Need-loop-again Inv-loop μ-loop
-loop-again c = fill-step _ _ (c .before .before .before .loop .inv) (c .before .before .loop-test .taken)
-    (c .word .ensures ∙ c .before .loops-of .ensures)
+loop-again c =
+    among-step _ width _ (c .before .before .before .before .before .loop .inv) (c .before .before .before .before .loop-test .taken) (omega arith) _ _
+    (has-in _ _ _ _ (c .before .has .ensures) (c .before .before .at .ensures)) (c .with-if .ensures)
 
 returns : tie.Need-returns Inv-loop μ-loop
-returns c = fill-end _ _ (c .before .loop .inv) (c .loop-test .left)
+unfolding loopsIn
+returns c = among-end _ width _ (c .before .loop .inv) (c .loop-test .left)
 
 pub loops-spec : {M : Type 1} → statement M
 loops-spec =
@@ -54,14 +66,15 @@ loops-spec =
     (tie.spec
     Inv-loop
     μ-loop
+    none-requires
     loop-holds
-    cast-loop
-    loops-of-requires
-    word-requires
-    cast-out
-    mul-out
-    array-write-out
-    add-k
+    mul-at
+    cast-at
+    add-at
+    at-requires
+    has-requires
+    with-if-requires
+    add-u
     loop-less
     loop-again
     returns)

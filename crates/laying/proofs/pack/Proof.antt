@@ -1,6 +1,6 @@
 use mathlib.Core.Path.{refl}
-use borrow.Author.Needs.{needs}
 use Rattle.laying.specs.Laid.{packed}
+use borrow.Author.Needs.{needs}
 use Rattle.laying.proofs.pack.Statement.{statement}
 use Rattle.laying.proofs.pack.Tie as tie
 

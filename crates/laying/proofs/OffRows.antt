@@ -1,0 +1,56 @@
+-- What is read off the rows of a board stays while what stands behind the rows is put.
+use mathlib.Core.Path.{_≡_, refl, sym, ap, ap₂, _∙_}
+use mathlib.Core.Bool.{Bool, true, false, _&&_}
+use mathlib.Core.List.{List}
+use Prim.Native.Nat.{ℕ, _+_, _*_, _≤_, _<_}
+use native.Mathlib.Decide.{decLt}
+use native.Mathlib.Omega.{arith}
+use borrow.Author.Tests.{lt-ltb, le-ltb}
+use lib.Dec.{ltb}
+use lib.ListN.{getD}
+use Rattle.sets.specs.Sets.{has, setOf}
+use Rattle.sets.specs.Stored.{width, setAt}
+use Rattle.sets.proofs.Counting.{setOf-ext}
+use Rattle.cases.specs.Case.{mostPeople}
+use Rattle.boards.specs.Board.{relations, columnsFrom, loopsFrom, rowPlace}
+use Rattle.laying.specs.Parts.{columnIn, loopsIn, laidFrom, laidBlocks, Put, PutBlocks}
+use Rattle.laying.proofs.Writing.{from-below, from-cong, blocks-below}
+
+-- two boards with the same rows
+abbrev SameRows : List ℕ → List ℕ → Type 0
+SameRows out l = (i : ℕ) → i < columnsFrom → getD out i 0 ≡ getD l i 0
+
+module _ (out l : List ℕ) (n k : ℕ) (small : n ≤ mostPeople) (there : k < relations) (same : SameRows out l) where
+  row-still : (u v : ℕ) → ltb u n && has (setAt out (rowPlace k u)) v ≡ ltb u n && has (setAt l (rowPlace k u)) v
+  unfolding setAt
+  row-still u v = go (decLt u n)
+    where
+      go : Dec (u < n) → ltb u n && has (getD out (rowPlace k u) 0) v ≡ ltb u n && has (getD l (rowPlace k u) 0) v
+      go (yes h) = ap (λ (s : ℕ). ltb u n && has s v) (same (rowPlace k u) (omega arith))
+      go (no h) = rw (le-ltb u n (omega arith))
+
+  column-still : (v : ℕ) → columnIn out n k v ≡ columnIn l n k v
+  unfolding columnIn
+  column-still v = setOf-ext _ _ width (λ u h. row-still u v)
+
+  loops-still : loopsIn out n k ≡ loopsIn l n k
+  unfolding loopsIn
+  loops-still = setOf-ext _ _ width (λ u h. row-still u u)
+
+-- the columns of one relation, then of each
+pub column-next : (a n k v r : ℕ) {i : ℕ} {l out : List ℕ} → Put a n (columnIn l n k) l i out → columnsFrom ≤ a → n ≤ mostPeople → k < relations
+    → r ≡ columnIn out n k v → r ≡ columnIn l n k v
+column-next a n k v r {i} {l} {out} g h small there e =
+    e ∙ column-still out l n k small there (λ j b. ap (λ (x : List ℕ). getD x j 0) (g .so) ∙ from-below a (columnIn l n k) i l j (omega arith)) v
+
+pub columns-next : (m n k a′ : ℕ) {l out out′ : List ℕ} → PutBlocks columnsFrom m n (columnIn l n) l k out → n ≤ mostPeople → k < relations
+    → out′ ≡ laidFrom a′ n (columnIn out n k) out → out′ ≡ laidFrom a′ n (columnIn l n k) out
+columns-next m n k a′ {l} {out} {out′} g small there e =
+    e ∙ from-cong a′ n (columnIn out n k) (columnIn l n k) out
+    (λ v h. column-still out l n k small there
+    (λ j b. ap (λ (x : List ℕ). getD x j 0) (g .so) ∙ blocks-below columnsFrom n (columnIn l n) k l j b) v)
+
+pub loops-next : (m n r : ℕ) {k : ℕ} {l out : List ℕ} → Put loopsFrom m (loopsIn l n) l k out → n ≤ mostPeople → k < relations
+    → r ≡ loopsIn out n k → r ≡ loopsIn l n k
+loops-next m n r {k} {l} {out} g small there e =
+    e ∙ loops-still out l n k small there (λ j b. ap (λ (x : List ℕ). getD x j 0) (g .so) ∙ from-below loopsFrom (loopsIn l n) k l j (omega arith))

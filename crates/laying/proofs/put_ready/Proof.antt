@@ -1,0 +1,80 @@
+use Prim.Native.Nat.{_-_, _^_}
+use mathlib.Core.Path.{refl}
+use native.Mathlib.Omega.{arith}
+use Rattle.sets.proofs.Masks.{shl-one}
+use Rattle.boards.specs.Board.{readyFrom}
+use Rattle.laying.specs.Parts.{readyIn, Put}
+use Rattle.laying.proofs.Writing.{put-start, put-step, put-end}
+use Rattle.laying.proofs.OffSets.{sets-few, ready-next}
+use borrow.Author.Needs.{needs}
+use Rattle.laying.proofs.put_ready.Statement.{statement}
+use Rattle.laying.proofs.put_ready.Tie as tie
+
+abbrev Inv-loop : tie.InvT-loop
+Inv-loop board₀ n many f₀ board f = Put readyFrom (2 ^ n) (readyIn board₀ n) board₀ f board
+
+abbrev μ-loop : tie.MeasureT-loop
+μ-loop board₀ n many f₀ board f = many - f
+
+shl-many : tie.Need-shl-many Inv-loop μ-loop
+shl-many c = omega arith
+
+loop-holds : tie.Need-loop-holds Inv-loop μ-loop
+loop-holds c = put-start _ _ _ _
+
+ready-requires : tie.Need-ready-requires Inv-loop μ-loop
+ready-requires c κs = search needs
+
+cast-board : tie.Need-cast-board Inv-loop μ-loop
+cast-board c = omega arith
+
+cast-board-2 : tie.Need-cast-board-2 Inv-loop μ-loop
+cast-board-2 c = omega arith
+
+add-board : tie.Need-add-board Inv-loop μ-loop
+add-board c = omega arith
+
+mul-board : tie.Need-mul-board Inv-loop μ-loop
+mul-board c = omega arith
+
+element-write-board : tie.Need-element-write-board Inv-loop μ-loop
+element-write-board c =
+    let n = c .before .before .before .before .args .n in
+    omega (arith, c .before .before .loop-test .taken, shl-one 16 n (omega arith), sets-few n (omega arith))
+
+add-f : tie.Need-add-f Inv-loop μ-loop
+add-f c = omega arith
+
+loop-less : tie.Need-loop-less Inv-loop μ-loop
+loop-less c = omega arith
+
+loop-again : tie.Need-loop-again Inv-loop μ-loop
+loop-again c =
+    let n = c .before .before .before .before .args .n in
+    let loop = c .before .before .before .loop .inv in
+    put-step _ _ _ _ loop (omega (arith, c .before .before .loop-test .taken, shl-one 16 n (omega arith))) _ _ refl
+    (ready-next _ _ _ loop (c .ready .ensures))
+
+returns : tie.Need-returns Inv-loop μ-loop
+returns c =
+    let n = c .before .before .args .n in
+    put-end _ _ _ _ (c .before .loop .inv) (omega (arith, c .loop-test .left, shl-one 16 n (omega arith)))
+
+pub put-ready-spec : {M : Type 1} → statement M
+put-ready-spec =
+    tie.close
+    (tie.spec
+    Inv-loop
+    μ-loop
+    shl-many
+    loop-holds
+    ready-requires
+    cast-board
+    cast-board-2
+    add-board
+    mul-board
+    element-write-board
+    add-f
+    loop-less
+    loop-again
+    returns)
