@@ -164,14 +164,7 @@ pub fn plan_laid(board: &[u32; PLACES], people: u8, steps: u8, limit: u32) -> Pl
     requires { ⌜ (people ≤ 32) × OneReady (now board) ⌝ }
     ensures { λ r. ⌜ r ≡ planAnswerOn steps (cut limit (planOn (now (board .entry)) people steps)) ⌝ }
 {
-    let walked = plan_walk(
-        board,
-        people,
-        People::none(),
-        Filled::start(),
-        steps,
-        limit,
-    );
+    let walked = plan_walk(board, people, People::none(), Filled::start(), steps, limit);
     plan_said(walked, steps, limit)
 }
 
@@ -234,7 +227,13 @@ fn walk(
 }
 
 // Advice on a case that is ready: the position and the absentees are judged, then the board is walked.
-pub fn advise_ready(case: Case, position: Position, t: u32, absent: People, limit: u32) -> AdviceAnswer
+pub fn advise_ready(
+    case: Case,
+    position: Position,
+    t: u32,
+    absent: People,
+    limit: u32,
+) -> AdviceAnswer
     requires { ⌜ Ready case ⌝ }
     ensures { λ r. ⌜ r ≡ adviceReady case (persons position) t (number absent) limit ⌝ }
 {
@@ -246,7 +245,15 @@ pub fn advise_ready(case: Case, position: Position, t: u32, absent: People, limi
         Judged::Good => {
             let left = (steps as u8) - position.len;
             advice_said(
-                advice_walk(&board, people as u8, t, absent, filled(position), left, limit),
+                advice_walk(
+                    &board,
+                    people as u8,
+                    t,
+                    absent,
+                    filled(position),
+                    left,
+                    limit,
+                ),
                 limit,
             )
         }
