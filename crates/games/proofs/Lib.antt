@@ -9,3 +9,5 @@ pub mod Trials
 pub mod Strikes
 pub mod Matched
 pub mod Walks
+pub mod Straight
+pub mod Spread

@@ -2,7 +2,7 @@
 use mathlib.Core.Path.{_≡_, refl, sym, ap, ap₂, _∙_}
 use mathlib.Core.Bool.{Bool, true, false, _&&_, true≢false}
 use mathlib.Core.List.{List, [], _∷_, _++_, map, append-nil, append-assoc}
-use Prim.Native.Nat.{ℕ, zero, suc, _+_, _-_, _*_, _^_, _≤_, _<_}
+use Prim.Native.Nat.{ℕ, zero, suc, _+_, _-_, _*_, _^_, _≤_, _<_, min}
 use native.Mathlib.Nat.{pow-suc, suc-add, zero-add}
 use native.Mathlib.Decide.{decLt}
 use native.Mathlib.Omega.{arith}
@@ -160,9 +160,10 @@ sets-begun h n t done s x rest l e k g =
         ap (λ (b : Bool). consIf b s (keep low (x ∷ rest))) (lt-ltb s (2 ^ h) k)
         ∙ ap (λ (l : List ℕ). s ∷ l) (ap (λ (b : Bool). consIf b x (keep low rest)) (le-ltb x (2 ^ h) g) ∙ keep-nothing low rest (λ y m. le-ltb y (2 ^ h) (omega (arith, above y m, g))))
 
--- more may be away than there are people: it makes no difference
-pub sets-most : (n t : ℕ) → n ≤ t → sets n t 0 ≡ sets n n 0
-sets-most n t h =
-    sets-few n t
-    ∙ keep-cong _ _ (upto (2 ^ n)) (λ s m. le-leb (size n s) t (omega (arith, size-le n s)) ∙ sym (le-leb (size n s) n (size-le n s)))
-    ∙ sym (sets-few n n)
+-- more than there are people are as good as any number not below theirs
+pub sets-capped : (n w t : ℕ) → n ≤ w → sets n t 0 ≡ sets n (min t w) 0
+sets-capped n w t h = sets-few n t ∙ keep-cong _ _ (upto (2 ^ n)) (λ s m. same (size n s) (size-le n s) (decLt t (size n s))) ∙ sym (sets-few n (min t w))
+  where
+    same : (x : ℕ) → x ≤ n → Dec (t < x) → leb x t ≡ leb x (min t w)
+    same x l (yes k) = lt-leb x t k ∙ sym (lt-leb x (min t w) (omega arith))
+    same x l (no k) = le-leb x t (omega arith) ∙ sym (le-leb x (min t w) (omega arith))
