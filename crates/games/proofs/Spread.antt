@@ -6,7 +6,7 @@ use mathlib.Core.Option.{Option, none, some}
 use mathlib.Core.Bool.{Bool, true, false, _&&_, true≢false}
 use mathlib.Core.List.{List, [], _∷_, _++_, map}
 use Prim.Native.Nat.{ℕ, zero, suc, _+_, _-_, _*_, _^_, _≤_, _<_, min}
-use native.Mathlib.Nat.{add-suc, add-zero, add-mul, pow-suc, le-refl}
+use native.Mathlib.Nat.{add-suc, add-zero, zero-add, add-mul, pow-suc, le-refl}
 use native.Mathlib.Decide.{decLt}
 use native.Mathlib.Omega.{arith}
 use borrow.Author.Tests.{le-leb, lt-leb, eq-eqb, ne-eqb}
@@ -99,7 +99,7 @@ sum-keep-le c f (x ∷ xs) = go (f x) (sum-keep-le c f xs)
     go false h = omega arith
 
 pub bySize-atMost : (n : ℕ) (c : ℕ → ℕ) (xs : List ℕ) (j : ℕ) → atMost (bySize n c xs) j ≡ sum c (keep (λ s. leb (size n s) j) xs)
-bySize-atMost n c xs zero = ap (sum c) (keep-cong _ _ xs (λ s m. go (size n s)))
+bySize-atMost n c xs zero = zero-add (bySize n c xs 0) ∙ ap (sum c) (keep-cong _ _ xs (λ s m. go (size n s)))
   where
     go : (x : ℕ) → eqb x 0 ≡ leb x 0
     go zero = eq-eqb 0 0 refl ∙ sym (le-leb 0 0 (omega arith))

@@ -23,10 +23,13 @@ module _ (G : Arena) where
 
 -- ---- Numbers for the sets of at most j people, one for each j, and what becomes of them when people come for whom nothing changes
 
--- of at most j people, where a number is given for those of exactly j
+-- of fewer than j people, and of at most j, where a number is given for those of exactly j
+abbrev pub fewer : (ℕ → ℕ) → ℕ → ℕ
+fewer e zero = 0
+fewer e (suc j) = fewer e j + e j
+
 abbrev pub atMost : (ℕ → ℕ) → ℕ → ℕ
-atMost e zero = e 0
-atMost e (suc j) = atMost e j + e (suc j)
+atMost e j = fewer e (suc j)
 
 -- one person more: the sets without that person, and those with, who leave room for one fewer
 abbrev pub joinedBy : (ℕ → ℕ) → ℕ → ℕ

@@ -143,18 +143,13 @@ pub pass-going : (b : List ℕ) (n k : ℕ) (p : List ℕ) (limit T F : ℕ) →
 unfolding passOn
 pass-going b n k p limit T F h t l = going-start _ _ limit T F tt (fit-inside b n 0 p T F l h) (turn-line b n 0 p T F l h (oneShot (boardChain b n) t k))
 
--- a turn of the away side, and the static walk, go over sets
+-- a turn of the away side goes over sets
 pub away-going : (b : List ℕ) (n t k c limit : ℕ) (p : List ℕ) → (k ≡ 0 → ⊥) → c < 2 ^ n → size n c ≤ t
     → Sweep (beatsOn b n t (k - 1) p) (decremental (boardChain b n) t k c p) n t c limit c 0
 unfolding decremental beatsOn
 away-going b n t k c limit p f l h =
     let e : k ≡ suc (k - 1) = omega arith in
     sweep-start _ _ n t c limit l h (ap (λ (j : ℕ). decremental (boardChain b n) t j c p) e)
-
-pub static-going : (b : List ℕ) (n t k limit : ℕ) (p : List ℕ) → 0 < 2 ^ n → size n 0 ≤ t
-    → Sweep (λ A. ifNone A (plan (boardChain b n) A k p)) (static (boardChain b n) t k p) n t 0 limit 0 0
-unfolding static
-static-going b n t k limit p l h = sweep-start _ _ n t 0 limit l h refl
 
 -- a turn of the away side that has not struck: the pass, or else the strikes
 pub oneShot-turn : (b : List ℕ) (n t k : ℕ) (p : List ℕ) → (k ≡ 0 → ⊥)
