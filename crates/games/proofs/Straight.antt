@@ -1,6 +1,5 @@
 -- A plan that is found straight: at each step the first person who is tried and fits also leads on, and nobody is taken back. Such a walk looks at nobody
--- above the highest person placed, so it is the same walk whoever of those above is away. Where every set of some first people is planned straight
--- among themselves, the static walk is known for everybody.
+-- above the highest person placed, so it is the same walk whoever of those above is away.
 use mathlib.Core.Path.{_≡_, refl, sym, ap, ap₂, _∙_, subst}
 use mathlib.Core.Logic.{inl, inr}
 use mathlib.Core.Option.{Option, none, some}

@@ -71,10 +71,32 @@ module _ (G : Arena) (t k : ℕ) (p : G .Pos) where
         straight = λ h A m. absurd m;
       }
 
-  -- set s is walked: there is a plan, found in x trials, which has looked at nobody from m on; i is the size of s
-  module _ {limit s used top : ℕ} {sums : List ℕ} (w : Counted limit s used top sums) (h : G .people ≤ width)
-      (x : ℕ) (e : whole (record { got = none; trials = x }) ≡ cut (limit - used) (turnOf s))
-      (m : ℕ) (b : m < width → Straight G s k p m (planTrials G k p s)) (top′ : ℕ) (q : top′ ≡ max top m) (i : ℕ) (r : i ≡ size width s) where
+  -- What it holds when s is walked: there is a plan, found in x trials, that looked at nobody from a bound on; i is the size of s.
+  pub record Turned (limit s used top x top′ i : ℕ) (sums : List ℕ) : Type 0 where
+    pub was : Counted limit s used top sums
+    pub few : G .people ≤ width
+    pub holds : whole (record { got = none; trials = x }) ≡ cut (limit - used) (turnOf s)
+    pub bound : ℕ
+    pub bounds : bound < width → Straight G s k p bound (planTrials G k p s)
+    pub raised : top′ ≡ max top bound
+    pub sized : i ≡ size width s
+
+  module _ {limit s used top x top′ i : ℕ} {sums : List ℕ} (turned : Turned limit s used top x top′ i sums) where
+    abbrev w : Counted limit s used top sums
+    w = turned .was
+
+    h : G .people ≤ width
+    h = turned .few
+
+    e : whole (record { got = none; trials = x }) ≡ cut (limit - used) (turnOf s)
+    e = turned .holds
+
+    q : top′ ≡ max top (turned .bound)
+    q = turned .raised
+
+    r : i ≡ size width s
+    r = turned .sized
+
     abbrev done : List ℕ
     done = w .sweep .passed ++ (s ∷ [])
 
@@ -125,7 +147,7 @@ module _ (G : Arena) (t k : ℕ) (p : G .Pos) where
       where
         go : (A ∈ w .sweep .passed) ⊎ (A ≡ s) → Straight G A k p top′ (planTrials G k p A)
         go (inl i) = straight-wider G top′ (omega (arith, q)) (w .straight (omega (arith, q)) A i)
-        go (inr z) = subst (λ (B : ℕ). Straight G B k p top′ (planTrials G k p B)) (sym z) (straight-wider G top′ (omega (arith, q)) (b (omega (arith, q))))
+        go (inr z) = subst (λ (B : ℕ). Straight G B k p top′ (planTrials G k p B)) (sym z) (straight-wider G top′ (omega (arith, q)) (turned .bounds (omega (arith, q))))
 
     -- y comes next
     module _ (y : ℕ) (f : some y ≡ nextSet (G .people) t 0 s) where

@@ -1,15 +1,16 @@
-use mathlib.Core.Path.{sym, ap, _∙_}
-use mathlib.Core.Option.{none}
+use mathlib.Core.Path.{_≡_, sym, ap, _∙_}
+use mathlib.Core.Option.{none, some}
 use native.Mathlib.Omega.{arith}
 use borrow.Author.Needs.{needs}
 use Prim.Native.Nat.{_-_, _^_}
+use Rattle.sets.specs.Sets.{nextSet}
 use Rattle.sets.specs.Stored.{number}
 use Rattle.cases.specs.Positions.{persons}
 use Rattle.boards.specs.Board.{boardChain}
 use Rattle.walks.specs.Outcomes.{turnOutcome}
 use Rattle.walks.proofs.Cuts.{ends}
 use Rattle.walks.proofs.Sweeps.{sweep-known, sweep-limit, sweep-beats, sweep-beaten, sweep-within, sweep-end, sweep-higher}
-use Rattle.walks.proofs.Counted.{Counted, counted-start, counted-place, counted-fits, counted-most, counted-people, counted-on, counted-all}
+use Rattle.walks.proofs.Counted.{Counted, Turned, counted-start, counted-place, counted-fits, counted-most, counted-people, counted-on, counted-all}
 use Rattle.walks.proofs.Turns.{nobody-shown, static-full, next-some, next-none}
 use Rattle.walks.proofs.static_walk.Statement.{statement}
 use Rattle.walks.proofs.static_walk.Tie as tie
@@ -28,6 +29,31 @@ Inv-loop board people t p left limit set₀ used₀ top₀ sums₀ set used top 
 
 abbrev μ-loop : tie.MeasureT-loop
 μ-loop board people t p left limit set₀ used₀ top₀ sums₀ set used top sums = 2 ^ people - number set
+
+-- a set is walked: there is a plan without it
+walked : (c : tie.After-size Inv-loop μ-loop)
+    → let s = c .before .before .before .before .before .before .before .before .before in
+    let l = c .before .before .before .before .before .before .loop in
+    Turned (boardChain (s .args .board .now) (s .args .people)) (s .args .t) (s .args .left) (persons (s .args .p)) (s .args .limit)
+    (number (l .set)) (l .used) (l .top) (c .before .before .before .turn2 .given .0 .0) (c .before .higher .result) (c .size .result) (l .sums)
+walked c =
+    record {
+      was = c .before .before .before .before .before .before .loop .inv;
+      few = c .before .before .before .before .before .before .before .before .before .pre .1;
+      holds = sym (ap (turnOutcome _ _) (c .before .before .before .turn2 .given .1)) ∙ c .before .before .before .before .before .without-plan .ensures .0;
+      bound = c .before .before .before .before .before .without-plan .result .top;
+      bounds = c .before .before .before .before .before .without-plan .ensures .2;
+      raised = c .before .higher .ensures;
+      sized = c .size .ensures;
+    }
+
+-- another set comes next
+larger-next : (c : tie.After-larger Inv-loop μ-loop)
+    → let s = c .before .before .before .before .before .before .before .before .before .before .before .before .before in
+    some (number (c .larger .given .0 .0)) ≡ nextSet (s .args .people) (s .args .t) 0 (number (c .before .before .before .before .before .before .before .before .before .before .loop .set))
+larger-next c =
+    next-some _ _ _ _ (c .before .before .before .before .before .before .before .before .before .before .before .before .before .pre .1) (c .larger .given .1)
+    (rw (nobody-shown (c .before .before .before .none2 .ensures)) at (c .before .before .next .ensures))
 
 returns : tie.Need-returns Inv-loop μ-loop
 returns c = ends _ _ none 0 (static-full _ _ _ (c .if1 .taken) _) (omega arith)
@@ -72,25 +98,25 @@ size-requires : tie.Need-size-requires Inv-loop μ-loop
 size-requires c κs = tt
 
 cast-size : tie.Need-cast-size Inv-loop μ-loop
-cast-size c = omega (arith, counted-place _ _ _ _ (c .before .before .before .before .before .before .loop .inv) (c .before .before .before .before .before .before .before .before .before .pre .1) _ (sym (ap (turnOutcome _ _) (c .before .before .before .turn2 .given .1)) ∙ c .before .before .before .before .before .without-plan .ensures .0) _ (c .before .before .before .before .before .without-plan .ensures .2) _ (c .before .higher .ensures) _ (c .size .ensures))
+cast-size c = omega (arith, counted-place _ _ _ _ (walked c))
 
 mul-sums : tie.Need-mul-sums Inv-loop μ-loop
-mul-sums c = omega (arith, counted-place _ _ _ _ (c .before .before .before .before .before .before .loop .inv) (c .before .before .before .before .before .before .before .before .before .pre .1) _ (sym (ap (turnOutcome _ _) (c .before .before .before .turn2 .given .1)) ∙ c .before .before .before .before .before .without-plan .ensures .0) _ (c .before .before .before .before .before .without-plan .ensures .2) _ (c .before .higher .ensures) _ (c .size .ensures))
+mul-sums c = omega (arith, counted-place _ _ _ _ (walked c))
 
 array-read-sums : tie.Need-array-read-sums Inv-loop μ-loop
-array-read-sums c = omega (arith, counted-place _ _ _ _ (c .before .before .before .before .before .before .loop .inv) (c .before .before .before .before .before .before .before .before .before .pre .1) _ (sym (ap (turnOutcome _ _) (c .before .before .before .turn2 .given .1)) ∙ c .before .before .before .before .before .without-plan .ensures .0) _ (c .before .before .before .before .before .without-plan .ensures .2) _ (c .before .higher .ensures) _ (c .size .ensures))
+array-read-sums c = omega (arith, counted-place _ _ _ _ (walked c))
 
 cast-sums : tie.Need-cast-sums Inv-loop μ-loop
 cast-sums c = omega arith
 
 add-sums : tie.Need-add-sums Inv-loop μ-loop
-add-sums c = omega (arith, counted-fits _ _ _ _ (c .before .before .before .before .before .before .loop .inv) (c .before .before .before .before .before .before .before .before .before .pre .1) _ (sym (ap (turnOutcome _ _) (c .before .before .before .turn2 .given .1)) ∙ c .before .before .before .before .before .without-plan .ensures .0) _ (c .before .before .before .before .before .without-plan .ensures .2) _ (c .before .higher .ensures) _ (c .size .ensures) (c .before .before .before .before .before .before .before .before .before .fits .limit .fits))
+add-sums c = omega (arith, counted-fits _ _ _ _ (walked c) (c .before .before .before .before .before .before .before .before .before .fits .limit .fits))
 
 mul-sums-2 : tie.Need-mul-sums-2 Inv-loop μ-loop
-mul-sums-2 c = omega (arith, counted-place _ _ _ _ (c .before .before .before .before .before .before .loop .inv) (c .before .before .before .before .before .before .before .before .before .pre .1) _ (sym (ap (turnOutcome _ _) (c .before .before .before .turn2 .given .1)) ∙ c .before .before .before .before .before .without-plan .ensures .0) _ (c .before .before .before .before .before .without-plan .ensures .2) _ (c .before .higher .ensures) _ (c .size .ensures))
+mul-sums-2 c = omega (arith, counted-place _ _ _ _ (walked c))
 
 array-write-sums : tie.Need-array-write-sums Inv-loop μ-loop
-array-write-sums c = omega (arith, counted-place _ _ _ _ (c .before .before .before .before .before .before .loop .inv) (c .before .before .before .before .before .before .before .before .before .pre .1) _ (sym (ap (turnOutcome _ _) (c .before .before .before .turn2 .given .1)) ∙ c .before .before .before .before .before .without-plan .ensures .0) _ (c .before .before .before .before .before .without-plan .ensures .2) _ (c .before .higher .ensures) _ (c .size .ensures))
+array-write-sums c = omega (arith, counted-place _ _ _ _ (walked c))
 
 none-requires-2 : tie.Need-none-requires-2 Inv-loop μ-loop
 none-requires-2 c κs = tt
@@ -108,25 +134,25 @@ past-requires : tie.Need-past-requires Inv-loop μ-loop
 past-requires c κs = tt
 
 sub-all-planned : tie.Need-sub-all-planned Inv-loop μ-loop
-sub-all-planned c = omega (arith, counted-people _ _ _ _ (c .before .before .before .before .before .before .before .before .before .before .before .before .before .loop .inv) (c .before .before .before .before .before .before .before .before .before .before .before .before .before .before .before .before .pre .1) _ (sym (ap (turnOutcome _ _) (c .before .before .before .before .before .before .before .before .before .before .turn2 .given .1)) ∙ c .before .before .before .before .before .before .before .before .before .before .before .before .without-plan .ensures .0) _ (c .before .before .before .before .before .before .before .before .before .before .before .before .without-plan .ensures .2) _ (c .before .before .before .before .before .before .before .before .higher .ensures) _ (c .before .before .before .before .before .before .before .size .ensures) _ (next-some _ _ _ _ (c .before .before .before .before .before .before .before .before .before .before .before .before .before .before .before .before .pre .1) (c .before .before .before .larger .given .1) (rw (nobody-shown (c .before .before .before .before .before .before .none2 .ensures)) at (c .before .before .before .before .before .next .ensures))) (sym (c .before .past .ensures) ∙ c .if2 .taken))
+sub-all-planned c = omega (arith, counted-people _ _ _ _ (walked (c .before .before .before .before .before .before .before)) _ (larger-next (c .before .before .before)) (sym (c .before .past .ensures) ∙ c .if2 .taken))
 
 all-planned-requires : tie.Need-all-planned-requires Inv-loop μ-loop
-all-planned-requires c κs = (omega (arith, c .before .before .before .before .before .before .before .before .before .before .before .before .before .before .before .before .pre .1), counted-most _ _ _ _ (c .before .before .before .before .before .before .before .before .before .before .before .before .before .loop .inv) (c .before .before .before .before .before .before .before .before .before .before .before .before .before .before .before .before .pre .1) _ (sym (ap (turnOutcome _ _) (c .before .before .before .before .before .before .before .before .before .before .turn2 .given .1)) ∙ c .before .before .before .before .before .before .before .before .before .before .before .before .without-plan .ensures .0) _ (c .before .before .before .before .before .before .before .before .before .before .before .before .without-plan .ensures .2) _ (c .before .before .before .before .before .before .before .before .higher .ensures) _ (c .before .before .before .before .before .before .before .size .ensures) (c .before .before .before .before .before .before .before .before .before .before .before .before .before .before .before .before .fits .limit .fits))
+all-planned-requires c κs = (omega (arith, c .before .before .before .before .before .before .before .before .before .before .before .before .before .before .before .before .pre .1), counted-most _ _ _ _ (walked (c .before .before .before .before .before .before .before)) (c .before .before .before .before .before .before .before .before .before .before .before .before .before .before .before .before .fits .limit .fits))
 
 returns-4 : tie.Need-returns-4 Inv-loop μ-loop
-returns-4 c = rw (sym (counted-all _ _ _ _ (c .before .before .before .before .before .before .before .before .before .before .before .before .before .before .loop .inv) (c .before .before .before .before .before .before .before .before .before .before .before .before .before .before .before .before .before .pre .1) _ (sym (ap (turnOutcome _ _) (c .before .before .before .before .before .before .before .before .before .before .before .turn2 .given .1)) ∙ c .before .before .before .before .before .before .before .before .before .before .before .before .before .without-plan .ensures .0) _ (c .before .before .before .before .before .before .before .before .before .before .before .before .before .without-plan .ensures .2) _ (c .before .before .before .before .before .before .before .before .before .higher .ensures) _ (c .before .before .before .before .before .before .before .before .size .ensures) _ (next-some _ _ _ _ (c .before .before .before .before .before .before .before .before .before .before .before .before .before .before .before .before .before .pre .1) (c .before .before .before .before .larger .given .1) (rw (nobody-shown (c .before .before .before .before .before .before .before .none2 .ensures)) at (c .before .before .before .before .before .before .next .ensures))) (sym (c .before .before .past .ensures) ∙ c .before .if2 .taken))) (c .all-planned .ensures)
+returns-4 c = rw (sym (counted-all _ _ _ _ (walked (c .before .before .before .before .before .before .before .before)) _ (larger-next (c .before .before .before .before)) (sym (c .before .before .past .ensures) ∙ c .before .if2 .taken))) (c .all-planned .ensures)
 
 loop-less : tie.Need-loop-less Inv-loop μ-loop
-loop-less c = let s = c .before .before .before .before .before .before .before .before .before .before .before .before .before .loop .inv .sweep in omega (arith, sweep-known s, sweep-higher s _ (next-some _ _ _ _ (c .before .before .before .before .before .before .before .before .before .before .before .before .before .before .before .before .pre .1) (c .before .before .before .larger .given .1) (rw (nobody-shown (c .before .before .before .before .before .before .none2 .ensures)) at (c .before .before .before .before .before .next .ensures))))
+loop-less c = let s = c .before .before .before .before .before .before .before .before .before .before .before .before .before .loop .inv .sweep in omega (arith, sweep-known s, sweep-higher s _ (larger-next (c .before .before .before)))
 
 loop-again : tie.Need-loop-again Inv-loop μ-loop
-loop-again c = counted-on _ _ _ _ (c .before .before .before .before .before .before .before .before .before .before .before .before .before .loop .inv) (c .before .before .before .before .before .before .before .before .before .before .before .before .before .before .before .before .pre .1) _ (sym (ap (turnOutcome _ _) (c .before .before .before .before .before .before .before .before .before .before .turn2 .given .1)) ∙ c .before .before .before .before .before .before .before .before .before .before .before .before .without-plan .ensures .0) _ (c .before .before .before .before .before .before .before .before .before .before .before .before .without-plan .ensures .2) _ (c .before .before .before .before .before .before .before .before .higher .ensures) _ (c .before .before .before .before .before .before .before .size .ensures) _ (next-some _ _ _ _ (c .before .before .before .before .before .before .before .before .before .before .before .before .before .before .before .before .pre .1) (c .before .before .before .larger .given .1) (rw (nobody-shown (c .before .before .before .before .before .before .none2 .ensures)) at (c .before .before .before .before .before .next .ensures))) (sym (c .before .past .ensures) ∙ c .if2 .left)
+loop-again c = counted-on _ _ _ _ (walked (c .before .before .before .before .before .before .before)) _ (larger-next (c .before .before .before)) (sym (c .before .past .ensures) ∙ c .if2 .left)
 
 enum-told-2 : tie.Need-enum-told-2 Inv-loop μ-loop
 enum-told-2 c = search needs
 
 returns-5 : tie.Need-returns-5 Inv-loop μ-loop
-returns-5 c = sweep-end (c .before .before .before .before .before .before .before .before .before .before .loop .inv .sweep) _ (sym (ap (turnOutcome _ _) (c .before .before .before .before .before .before .before .turn2 .given .1)) ∙ c .before .before .before .before .before .before .before .before .before .without-plan .ensures .0) (next-none _ _ _ _ (c .before .before .before .before .before .before .before .before .before .before .before .before .before .pre .1) (c .enum-told2 .given .1) (rw (nobody-shown (c .before .before .before .none2 .ensures)) at (c .before .before .next .ensures)))
+returns-5 c = sweep-end (c .before .before .before .before .before .before .before .before .before .before .loop .inv .sweep) _ (walked (c .before .before .before .before) .holds) (next-none _ _ _ _ (c .before .before .before .before .before .before .before .before .before .before .before .before .before .pre .1) (c .enum-told2 .given .1) (rw (nobody-shown (c .before .before .before .none2 .ensures)) at (c .before .before .next .ensures)))
 
 pub static-walk-spec : {M : Type 1} → statement M
 static-walk-spec =
