@@ -10,3 +10,5 @@ pub mod Strikes
 pub mod Matched
 pub mod Walks
 pub mod Gone
+pub mod Straight
+pub mod Spread

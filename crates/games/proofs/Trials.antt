@@ -20,7 +20,7 @@ abbrev pub sum : {A : Type 0} → (A → ℕ) → List A → ℕ
 sum f [] = 0
 sum f (x ∷ xs) = f x + sum f xs
 
-sum-cong : {A : Type 0} (f g : A → ℕ) (xs : List A) → ((x : A) → x ∈ xs → f x ≡ g x) → sum f xs ≡ sum g xs
+pub sum-cong : {A : Type 0} (f g : A → ℕ) (xs : List A) → ((x : A) → x ∈ xs → f x ≡ g x) → sum f xs ≡ sum g xs
 sum-cong f g [] h = refl
 sum-cong f g (x ∷ xs) h = ap₂ _+_ (h x (inl refl)) (sum-cong f g xs (λ y m. h y (inr m)))
 

@@ -10,3 +10,4 @@ pub mod Listed
 pub mod Masks
 pub mod CountingUp
 pub mod Following
+pub mod Blocks

@@ -7,3 +7,6 @@ pub mod Sweeps
 pub mod Tries
 pub mod Turns
 pub mod Showing
+pub mod Sizes
+pub mod Ways
+pub mod Counted

@@ -265,13 +265,13 @@ module _ (b : List ℕ) (n A : ℕ) (p : Filled) (T F : ℕ) (one : OneReady b) 
   abbrev put : ℕ → Filled
   put u = putOn p u (stepOn b p)
 
-  in-tried : (u : ℕ) → u < width → has T u ≡ (has al u && not (has A u)) && ltb u n
+  pub in-tried : (u : ℕ) → u < width → has T u ≡ (has al u && not (has A u)) && ltb u n
   in-tried u l =
       ap (λ s. has s u) (line .tried)
       ∙ has-setOf (λ w. has (difference width al A) w && has (everybody width n) w) width u l
       ∙ ap₂ _&&_ (has-setOf (λ w. has al w && not (has A w)) width u l) (has-setOf (λ w. ltb w n) width u l)
 
-  in-fit : (u : ℕ) → u < width → has F u ≡ has T u && has fi u
+  pub in-fit : (u : ℕ) → u < width → has F u ≡ has T u && has fi u
   in-fit u l = ap (λ s. has s u) (line .fit) ∙ has-setOf (λ w. has T w && has fi w) width u l
 
   pub fit-inside : Inside F T

@@ -41,7 +41,7 @@ pub record Sweep (f : ℕ → Search ℕ) (total : Search ℕ) (n t c limit s us
   pub rest : total ≡ plus used (seek f (s ∷ behind))
 
 -- c itself comes first
-pub sweep-start : (f : ℕ → Search ℕ) (total : Search ℕ) (n t c limit : ℕ) → c < 2 ^ n → size n c ≤ t → total ≡ seek f (sets n t c) → Sweep f total n t c limit c 0
+unfoldable pub sweep-start : (f : ℕ → Search ℕ) (total : Search ℕ) (n t c limit : ℕ) → c < 2 ^ n → size n c ≤ t → total ≡ seek f (sets n t c) → Sweep f total n t c limit c 0
 sweep-start f total n t c limit l h e =
     let k = sets-first n t c l h in
     record { enough = omega arith; passed = []; behind = k .0; split = k .1; rest = e ∙ ap (seek f) (k .1) ∙ sym (plus-zero (seek f (c ∷ k .0))) }
@@ -74,7 +74,7 @@ module _ {f : ℕ → Search ℕ} {total : Search ℕ} {n t c limit s used : ℕ
     pub sweep-within : used + k ≤ limit
     sweep-within = let d = finished (limit - used) (f s) none k e in omega (arith, d .within, w .enough)
 
-    held : total ≡ plus (used + k) (seek f (w .behind))
+    pub held : total ≡ plus (used + k) (seek f (w .behind))
     held =
         let d = finished (limit - used) (f s) none k e in
         w .rest ∙ ap (plus used) (seek-next f s (w .behind) k (d .got) (d .trials)) ∙ plus-plus used k (seek f (w .behind))
@@ -88,7 +88,7 @@ module _ {f : ℕ → Search ℕ} {total : Search ℕ} {n t c limit s used : ℕ
         ends limit total none (used + k) (held ∙ ap (λ x. plus (used + k) (seek f x)) l ∙ ap (λ (x : ℕ). record { got = none; trials = x }) n) sweep-within
 
     -- it does not, and x comes next
-    pub sweep-on : (x : ℕ) → some x ≡ nextSet n t c s → Sweep f total n t c limit x (used + k)
+    unfoldable pub sweep-on : (x : ℕ) → some x ≡ nextSet n t c s → Sweep f total n t c limit x (used + k)
     sweep-on x z =
         let l = sets-on n t c (w .passed) s (w .behind) x (w .split) (sym z) in
         record {

@@ -147,11 +147,6 @@ away-going b n t k c limit p f l h =
     let e : k ≡ suc (k - 1) = omega arith in
     sweep-start _ _ n t c limit l h (ap (λ (j : ℕ). decremental (boardArena b n) t j c p) e)
 
-pub static-going : (b : List ℕ) (n t k limit : ℕ) (p : Filled) → 0 < 2 ^ n → size n 0 ≤ t
-    → Sweep (λ A. ifNone A (plan (boardArena b n) A k p)) (static (boardArena b n) t k p) n t 0 limit 0 0
-unfolding static
-static-going b n t k limit p l h = sweep-start _ _ n t 0 limit l h refl
-
 -- a turn of the away side that has not struck: the pass, or else the strikes
 pub oneShot-turn : (b : List ℕ) (n t k : ℕ) (p : Filled) → (k ≡ 0 → ⊥)
     → orElse (passOn b n t (k - 1) p .got) (passOn b n t (k - 1) p .trials) (λ _. static (boardArena b n) t k p) ≡ oneShot (boardArena b n) t k p

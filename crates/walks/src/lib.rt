@@ -4,6 +4,7 @@
 // A position's people are lined up once: those who cost a trial, and among them those with whom every rule holds. Each turn of a loop then goes
 // straight to the next person worth a try, and counts those passed over, each a trial, without looking at them.
 mod strikes;
+mod sums;
 
 use boards::PLACES;
 use boards::allowed;
@@ -18,9 +19,11 @@ use sets::Next;
 use sets::People;
 use sets::lowest_in;
 pub use strikes::one_shot_walk;
+use sums::SIZES;
+use sums::all_planned;
 ghost use mathlib.Core.Path.{_≡_};
 ghost use mathlib.Core.Bool.{Bool};
-ghost use Prim.Native.Nat.{ℕ, _+_, _-_, _^_, _≤_, _<_};
+ghost use Prim.Native.Nat.{ℕ, max, _+_, _-_, _^_, _≤_, _<_};
 ghost use Rattle.sets.specs.Sets.{after, difference, size};
 ghost use Rattle.sets.specs.Stored.{width, number};
 ghost use Rattle.games.specs.Walks.{plan, static, decremental, dynamic, ifNone};
@@ -28,6 +31,7 @@ ghost use Rattle.games.specs.Limit.{cut};
 ghost use Rattle.boards.specs.Arena.{boardArena};
 ghost use Rattle.walks.specs.Outcomes.{planOutcome, verdictOutcome, advisedOutcome, turnOutcome, beatsOn, adviceOn};
 ghost use Rattle.walks.specs.Trying.{tryOutcome, tried, stepOn, OneReady, InLine};
+ghost use Rattle.walks.specs.Ways.{Finds, Bounds};
 
 // How a search for a plan ended.
 pub enum PlanEnd {
@@ -74,6 +78,18 @@ enum Try {
     Limit,
     Nobody(u32),
     Person(Person, u32),
+}
+
+// A search for a plan that takes nobody back. Where it finds one: its trials, and a person from whom on it looked at nobody.
+enum Way {
+    Found(u32, u8),
+    Lost,
+}
+
+// A turn of the static walk, which looked at nobody from person `top` on; or it took somebody back, and `top` is the width.
+struct Looked {
+    turn: Turn,
+    top: u8,
 }
 
 // The step that is ready, 32 where none is.
@@ -427,8 +443,52 @@ pub fn away_turn(
     }
 }
 
-// Is there a plan without some people? A turn of the static walk.
-fn without_plan(
+// A plan with some people away, found straight: at each step the first person who is tried and fits also leads on.
+fn straight(
+    board: &[u32; PLACES],
+    people: u8,
+    absent: People,
+    p: Filled,
+    left: u8,
+    limit: u32,
+) -> Way
+    requires { ⌜ (people ≤ 32) × OneReady (now board) ⌝ }
+    ensures { λ r. ⌜ Finds (now (board .entry)) people (number absent) left p limit r ⌝ }
+{
+    let mut at = p;
+    let mut more = left;
+    let mut used: u32 = 0;
+    let mut top: u8 = 0;
+    while 0 < more {
+        let step = next_step(board, at);
+        match next_try(line_up(board, people, absent, at, step), used, limit) {
+            Try::Limit => {
+                return Way::Lost;
+            }
+            Try::Nobody(_) => {
+                return Way::Lost;
+            }
+            Try::Person(v, trials) => {
+                let next = at.placed(step, v);
+                at = next;
+                more -= 1;
+                used = trials;
+                top = higher(top, v.0 + 1);
+            }
+        }
+    }
+    Way::Found(used, top)
+}
+
+// The higher of two.
+fn higher(a: u8, b: u8) -> u8
+    ensures { λ r. ⌜ r ≡ max a b ⌝ }
+{
+    if a < b { b } else { a }
+}
+
+// Is there a plan without some people? A plan walk that may take people back.
+fn plan_turn(
     board: &[u32; PLACES],
     people: u8,
     away: People,
@@ -448,6 +508,33 @@ fn without_plan(
     }
 }
 
+// Is there a plan without some people? A turn of the static walk: straight, or else with people taken back.
+fn without_plan(
+    board: &[u32; PLACES],
+    people: u8,
+    away: People,
+    p: Filled,
+    left: u8,
+    limit: u32,
+) -> Looked
+    requires { ⌜ (people ≤ 32) × OneReady (now board) ⌝ }
+    ensures { λ r. ⌜ (turnOutcome limit (number away) (r .turn) ≡ cut limit (ifNone (number away) (plan (boardArena (now (board .entry)) people) (number away) left p))) × (r .top ≤ width) × Bounds (now (board .entry)) people (number away) left p (r .top) ⌝ }
+{
+    match straight(board, people, away, p, left, limit) {
+        Way::Found(trials, top) => Looked {
+            turn: Turn::Holds(trials),
+            top: top,
+        },
+        Way::Lost => {
+            let turn = plan_turn(board, people, away, p, left, limit);
+            Looked {
+                turn: turn,
+                top: People::WIDTH,
+            }
+        }
+    }
+}
+
 // A turn of the away side with all gone who may go: nobody else can, and the rest is a plan without them.
 fn all_gone(
     board: &[u32; PLACES],
@@ -460,7 +547,9 @@ fn all_gone(
     requires { ⌜ (people ≤ 32) × OneReady (now board) ⌝ }
     ensures { λ r. ⌜ verdictOutcome limit r ≡ cut limit (ifNone (number away) (plan (boardArena (now (board .entry)) people) (number away) left p)) ⌝ }
 {
-    match without_plan(board, people, away, p, left, limit) {
+    let looked = without_plan(board, people, away, p, left, limit);
+    let turn = looked.turn;
+    match turn {
         Turn::Limit => Verdict::Limit,
         Turn::Beaten(trials) => Verdict::No(away, trials),
         Turn::Holds(trials) => Verdict::Yes(trials),
@@ -468,6 +557,9 @@ fn all_gone(
 }
 
 // The sets of at most t people, a plan walk each; it stops at the first without a plan. With no step left there is nothing to walk.
+//
+// A set that is planned straight says the same of every set with the same members below `top`. So once all sets of the first `top` people are walked, and
+// none of them looked any further, those that are left are counted and not walked.
 pub fn static_walk(
     board: &[u32; PLACES],
     people: u8,
@@ -484,8 +576,12 @@ pub fn static_walk(
     }
     let mut set = People::none();
     let mut used: u32 = 0;
+    let mut top: u8 = 0;
+    let mut sums = [0u64; SIZES];
     loop {
-        match without_plan(board, people, set, p, left, limit - used) {
+        let looked = without_plan(board, people, set, p, left, limit - used);
+        let turn = looked.turn;
+        match turn {
             Turn::Limit => {
                 return Verdict::Limit;
             }
@@ -494,10 +590,16 @@ pub fn static_walk(
             }
             Turn::Holds(trials) => {
                 used += trials;
+                top = higher(top, looked.top);
+                let size = set.size() as usize;
+                sums[size] = sums[size] + (trials as u64);
             }
         }
         match set.next(people, t, People::none()) {
             Next::Set(larger) => {
+                if larger.past(top as u16) {
+                    return all_planned(sums, people - top, t, limit);
+                }
                 set = larger;
             }
             Next::Nothing => {

@@ -10,20 +10,20 @@ without-plan-requires c κs = search needs
 enum-told : tie.Need-enum-told
 enum-told c = search needs
 
-enum-known-trials : tie.Need-enum-known-trials
-enum-known-trials c = search needs
+enum-known-turn : tie.Need-enum-known-turn
+enum-known-turn c = search needs
 
-enum-known-trials-2 : tie.Need-enum-known-trials-2
-enum-known-trials-2 c = search needs
+enum-known-turn-2 : tie.Need-enum-known-turn-2
+enum-known-turn-2 c = search needs
 
 returns : tie.Need-returns
-returns c = sym (ap (turnOutcome _ _) (c .enum-told .given .1)) ∙ c .before .before .without-plan .ensures
+returns c = sym (ap (turnOutcome _ _) (c .enum-told .given .1)) ∙ c .before .before .without-plan .ensures .0
 
 returns-2 : tie.Need-returns-2
-returns-2 c = sym (ap (turnOutcome _ _) (c .before .trials .given .1)) ∙ c .before .before .before .without-plan .ensures
+returns-2 c = sym (ap (turnOutcome _ _) (c .before .turn .given .1)) ∙ c .before .before .before .without-plan .ensures .0
 
 returns-3 : tie.Need-returns-3
-returns-3 c = sym (ap (turnOutcome _ _) (c .before .trials2 .given .1)) ∙ c .before .before .before .without-plan .ensures
+returns-3 c = sym (ap (turnOutcome _ _) (c .before .turn2 .given .1)) ∙ c .before .before .before .without-plan .ensures .0
 
 pub all-gone-spec : {M : Type 1} → statement M
 all-gone-spec =
@@ -31,8 +31,8 @@ all-gone-spec =
     (tie.spec
     without-plan-requires
     enum-told
-    enum-known-trials
-    enum-known-trials-2
+    enum-known-turn
+    enum-known-turn-2
     returns
     returns-2
     returns-3)

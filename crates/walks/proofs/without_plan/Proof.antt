@@ -1,42 +1,32 @@
-use mathlib.Core.Path.{sym, ap, _∙_}
-use Rattle.walks.specs.Outcomes.{planEnded}
-use Rattle.walks.proofs.Turns.{lacks-limit, lacks-none, lacks-some}
+use native.Mathlib.Omega.{arith}
+use Rattle.walks.proofs.Ways.{looked-straight}
 use borrow.Author.Needs.{needs}
 use Rattle.walks.proofs.without_plan.Statement.{statement}
 use Rattle.walks.proofs.without_plan.Tie as tie
 use Rattle.walks.proofs.without_plan.Reads as reads
 use Rattle.walks.proofs.without_plan.Lts as lts
-use Rattle.walks.proofs.plan_walk.Reads as plan-walk-reads
+use Rattle.walks.proofs.plan_turn.Reads as plan-turn-reads
+use Rattle.walks.proofs.straight.Reads as straight-reads
 
-plan-walk-requires : tie.Need-plan-walk-requires
-plan-walk-requires c κs = search needs
+straight-requires : tie.Need-straight-requires
+straight-requires c κs = search needs
+
+enum-known-trials : tie.Need-enum-known-trials
+enum-known-trials c = search needs
 
 enum-told : tie.Need-enum-told
 enum-told c = search needs
 
-enum-known-end : tie.Need-enum-known-end
-enum-known-end c = search needs
-
-enum-known-end-2 : tie.Need-enum-known-end-2
-enum-known-end-2 c = search needs
+plan-turn-requires : tie.Need-plan-turn-requires
+plan-turn-requires c κs = search needs
 
 returns : tie.Need-returns
-returns c = lacks-limit _ _ _ (sym (ap (planEnded _ _) (c .enum-told .given .1)) ∙ c .before .before .plan-walk .ensures)
+returns c = looked-straight _ _ _ _ _ _ (c .before .before .before .straight .result) _ _ (c .before .trials .given .1) (c .before .before .before .straight .ensures)
 
 returns-2 : tie.Need-returns-2
-returns-2 c = lacks-none _ _ _ _ (sym (ap (planEnded _ _) (c .before .end .given .1)) ∙ c .before .before .before .plan-walk .ensures)
-
-returns-3 : tie.Need-returns-3
-returns-3 c = lacks-some _ _ _ _ _ (sym (ap (planEnded _ _) (c .before .end2 .given .1)) ∙ c .before .before .before .plan-walk .ensures)
+returns-2 c = (c .plan-turn .ensures, omega arith, λ l. absurd (omega arith))
 
 pub without-plan-spec : {M : Type 1} → statement M
 without-plan-spec =
     tie.close
-    (tie.spec
-    plan-walk-requires
-    enum-told
-    enum-known-end
-    enum-known-end-2
-    returns
-    returns-2
-    returns-3)
+    (tie.spec straight-requires enum-known-trials enum-told plan-turn-requires returns returns-2)
