@@ -17,7 +17,9 @@ use Rattle.refusals.proofs.Conditions.{bad-rule}
 use Rattle.refusals.proofs.Cases.{good-case}
 use Rattle.laying.specs.Laid.{laidOut}
 use Rattle.laying.specs.Ready.{Ready, ReadyRule}
-use Rattle.laying.proofs.Means.{allowed-means, fits-means}
+use Rattle.laying.specs.declared.Order.the-variants as order
+use Rattle.meaning.proofs.Means.{allowed-means}
+use Rattle.meaning.proofs.OnBoard.{fits-next}
 use Rattle.asking.specs.Asking.{positionCheck}
 use Rattle.asking.specs.OnBoard.{positionCheckOn}
 use Rattle.asking.proofs.OnCase.{Means, position-means}
@@ -52,16 +54,17 @@ unfolding ruleEntry
 good-ready c e =
     let g = good-case c e in
     record {
-      people = g .limits .people;
-      steps = g .limits .steps;
-      tables = g .limits .tables;
-      rules = g .limits .rules;
+      counts = record { people = g .limits .people; steps = g .limits .steps; tables = g .limits .tables; rules = g .limits .rules };
       each = λ i l. subst (ReadyRule c) (entry-at zeroRule (c .counts .rules) (c .rules) i l) (ready-rule c (ruleEntry c i) (g .rules i l));
     }
 
-laid-means : (c : Case) → Ready c → Means c (laidOut c)
-laid-means c r = record { allows = λ u s k l. allowed-means c r s u; fits = λ p u k l v. fits-means c r p v l u k }
+laid-means : (c : Case) → Ready c → Means c (laidOut c order.Listed)
+laid-means c r =
+    record {
+      allows = λ u s k l. allowed-means c order.Listed r s u (omega (arith, r .counts .steps));
+      fits = λ p u k l v. fits-next c r p v u l k;
+    }
 
--- a position judged on the board of a good case is judged as the case says
-pub position-laid : (c : Case) (p : List ℕ) → judgedCase c ≡ Good → positionCheckOn (laidOut c) (people c) (steps c) p ≡ positionCheck c p
-position-laid c p e = position-means c (laidOut c) p (laid-means c (good-ready c e))
+-- a position judged on the board of a case that is ready is judged as the case says
+pub position-laid : (c : Case) (p : List ℕ) → Ready c → positionCheckOn (laidOut c order.Listed) (people c) (steps c) p ≡ positionCheck c p
+position-laid c p r = position-means c (laidOut c order.Listed) p (laid-means c r)

@@ -17,6 +17,7 @@ use Rattle.cases.specs.Case.{people, steps}
 use Rattle.cases.specs.Plans.{may, holds, Valid}
 use Rattle.cases.proofs.Rounds.{start-valid}
 use Rattle.boards.specs.Board.{allowedOn, fitsOn}
+use Rattle.meaning.specs.Listed.{filledBy}
 use Rattle.refusals.specs.Refusals.{refusal, refusalAt}
 use Rattle.refusals.proofs.Search.{found-along}
 use Rattle.asking.specs.Asking.{badEntry, positionCheck}
@@ -26,7 +27,7 @@ use Rattle.asking.proofs.Accepted.{passes}
 -- a board tells who may do a step, and with whom every rule is kept
 pub record Means (c : Case) (b : List ℕ) : Type 0 where
   pub allows : (u s : ℕ) → u < people c → s < steps c → has (allowedOn b s) u ≡ may c u s
-  pub fits : (p : List ℕ) (u : ℕ) → u < people c → length p < steps c → Valid c p → has (fitsOn b p) u ≡ holds c (p ++ (u ∷ []))
+  pub fits : (p : List ℕ) (u : ℕ) → u < people c → length p < steps c → Valid c p → has (fitsOn b (filledBy p) (length p)) u ≡ holds c (p ++ (u ∷ []))
 
 module _ (c : Case) (b p : List ℕ) (m : Means c b) (short : length p < steps c) where
   -- as far as no entry fails, the position is valid
@@ -56,11 +57,11 @@ module _ (c : Case) (b p : List ℕ) (m : Means c b) (short : length p < steps c
 
       go : Dec (v < people c)
           → not (ltb v (people c)) || (not (may c v i) || not (holds c (take (suc i) p)))
-          ≡ not (ltb v (people c)) || (not (has (allowedOn b (length (take i p))) v) || not (has (fitsOn b (take i p)) v))
+          ≡ not (ltb v (people c)) || (not (has (allowedOn b i) v) || not (has (fitsOn b (filledBy (take i p)) i) v))
       go (yes k) =
           ap₂ (λ x y. not (ltb v (people c)) || (not x || not y))
-          (sym (ap (λ s. has (allowedOn b s) v) at ∙ m .allows v i k (omega arith)))
-          (ap (holds c) (take-suc p i 0 l) ∙ sym (m .fits (take i p) v k (omega (arith, at)) (valid-so-far i (omega arith) h)))
+          (sym (m .allows v i k (omega arith)))
+          (ap (holds c) (take-suc p i 0 l) ∙ sym (m .fits (take i p) v k (omega (arith, at)) (valid-so-far i (omega arith) h)) ∙ ap (λ s. has (fitsOn b (filledBy (take i p)) s) v) at)
       go (no k) = simp (le-ltb v (people c) (omega arith))
 
 module _ (c : Case) (b p : List ℕ) (m : Means c b) where

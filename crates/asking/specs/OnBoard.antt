@@ -7,16 +7,18 @@ use lib.Dec.{ltb}
 use lib.ListN.{length, getD, take}
 use Rattle.sets.specs.Lists.{pick}
 use Rattle.sets.specs.Sets.{has}
+use Rattle.cases.specs.declared.Filled.{Filled}
 use Rattle.boards.specs.Board.{allowedOn, fitsOn}
+use Rattle.meaning.specs.Listed.{filledBy}
 use Rattle.refusals.specs.Refusals.{Check, refusal, entryCheck}
 
--- placed after p, person v is unknown, not allowed, or breaks a rule
-unfoldable pub badNext : List ℕ → ℕ → List ℕ → ℕ → Bool
-badNext board n p v = not (ltb v n) || (not (has (allowedOn board (length p)) v) || not (has (fitsOn board p) v))
+-- placed at step s, person v is unknown, not allowed, or breaks a rule
+unfoldable pub badNext : List ℕ → ℕ → Filled → ℕ → ℕ → Bool
+badNext board n p s v = not (ltb v n) || (not (has (allowedOn board s) v) || not (has (fitsOn board p s) v))
 
 -- for n people, entry i of a position is so
 unfoldable pub badEntryOn : List ℕ → ℕ → List ℕ → ℕ → Bool
-badEntryOn board n p i = badNext board n (take i p) (getD p i 0)
+badEntryOn board n p i = badNext board n (filledBy (take i p)) i (getD p i 0)
 
 -- for n people and so many steps
 unfoldable pub positionCheckOn : List ℕ → ℕ → ℕ → List ℕ → Check

@@ -3,8 +3,10 @@
 use boards::PLACES;
 use boards::allowed;
 use boards::fits;
+use cases::Filled;
 use cases::Person;
 use cases::Position;
+use cases::Step;
 use refusals::Judged;
 use refusals::Refusal;
 use sets::People;
@@ -15,6 +17,7 @@ ghost use Rattle.sets.specs.Stored.{number};
 ghost use Rattle.cases.specs.Case.{mostSteps};
 ghost use Rattle.cases.specs.Positions.{persons};
 ghost use Rattle.refusals.specs.Refusals.{judgedBy};
+ghost use Rattle.meaning.specs.Listed.{filledBy};
 ghost use Rattle.asking.specs.Asking.{numberCheck, absenceCheck};
 ghost use Rattle.asking.specs.OnBoard.{badNext, positionCheckOn};
 
@@ -41,33 +44,47 @@ pub fn judge_position(board: &[u32; PLACES], people: u16, steps: u16, p: Positio
             place: steps as usize,
         });
     }
-    let mut passed = Position::start();
+    let mut passed = Filled::start();
     let mut i: u8 = 0;
     while i < len {
         let v = p.person(i);
-        if bad_next(board, people, passed, v) {
+        if bad_next(board, people, passed, Step(i), v) {
             return Judged::Refused(Refusal {
                 number: 13,
                 place: i as usize,
             });
         }
-        passed = passed.placed(v);
+        passed = passed.placed(Step(i), v);
         i += 1;
     }
     Judged::Good
 }
 
-// Placed after p, is person v unknown, not allowed, or does a rule break?
-fn bad_next(board: &[u32; PLACES], people: u16, p: Position, v: Person) -> bool
-    ensures { λ r. ⌜ r ≡ badNext (now (board .entry)) people (persons p) (v .0) ⌝ }
+// Placed at step s, is person v unknown, not allowed, or does a rule break?
+fn bad_next(board: &[u32; PLACES], people: u16, p: Filled, s: Step, v: Person) -> bool
+    ensures { λ r. ⌜ r ≡ badNext (now (board .entry)) people p (s .0) (v .0) ⌝ }
 {
     if people <= (v.0 as u16) {
         return true;
     }
-    if !allowed(board, p.len).has(v.0) {
+    let able = allowed(board, s);
+    if !able.has(v.0) {
         return true;
     }
-    !fits(board, p).has(v.0)
+    !fits(board, p, s, able).has(v.0)
+}
+
+// A position as a search carries it: its persons in the first steps.
+pub fn filled(p: Position) -> Filled
+    ensures { λ r. ⌜ r ≡ filledBy (persons p) ⌝ }
+{
+    let mut q = Filled::start();
+    let mut i: u8 = 0;
+    while i < p.len {
+        q = q.placed(Step(i), p.person(i));
+        i += 1;
+    }
+    q
 }
 
 // 14: judges a set of absentees, for so many people and an absence number.

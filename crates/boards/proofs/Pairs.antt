@@ -2,7 +2,8 @@
 use mathlib.Core.Path.{_≡_, sym, ap, ap₂, _∙_}
 use mathlib.Core.Bool.{Bool, true, false, _&&_}
 use mathlib.Core.List.{List, _++_, append-nil}
-use Prim.Native.Nat.{ℕ, _<_, _^_}
+use Prim.Native.Nat.{ℕ, _<_, _%_, _^_}
+use native.Mathlib.Omega.{arith}
 use borrow.Author.Tests.{eq-eqb, ne-eqb}
 use lib.Dec.{eqb}
 use lib.ListN.{getD}
@@ -18,7 +19,7 @@ use Rattle.cases.specs.Case.{mostSteps, mostRules}
 use Rattle.cases.specs.Rules.{stepsIn}
 use Rattle.cases.specs.Filled.{whoIn}
 use Rattle.cases.proofs.Rules.{needed-as-one}
-use Rattle.boards.specs.Board.{rowPlace, columnPlace, loopsPlace, completePlace, ruleOn, completeOn, fullOn, dueOn, pairOn, keptOn, fitsOn}
+use Rattle.boards.specs.Board.{rowPlace, columnPlace, loopsPlace, readyPlace, completePlace, stepSets, readyOn, ruleOn, completeOn, fullOn, dueOn, pairOn, keptOn, fitsOn}
 
 module _ (b : List ℕ) (p : Filled) (s k y x : ℕ) where
   abbrev row : ℕ
@@ -80,6 +81,14 @@ module _ (b : List ℕ) (p : Filled) (s : ℕ) (r : Rule) (small : r .group < 2 
 
   pub kept-every : (n : ℕ) → n ≡ setOf (λ u. all (λ x. test x u) (members 32 (r .group))) width → (r .form ≡ 2 → ⊥) → n ≡ setOf (keptOn b p s r) width
   kept-every n q e = q ∙ kept-as false (ne-eqb (r .form) 2 e)
+
+-- ---- the steps that may be filled next
+
+pub ready-is : (b : List ℕ) (p : Filled) (n : ℕ) → n ≡ getD b (readyPlace (p .steps)) 0 → p .steps < stepSets → n % stepSets ≡ readyOn b p
+unfolding readyOn
+ready-is b p n e h =
+    let low : p .steps ≡ p .steps % stepSets = omega arith in
+    ap (λ (x : ℕ). x % stepSets) (e ∙ ap (λ (f : ℕ). getD b (readyPlace f) 0) low)
 
 -- ---- the rules that a step completes
 

@@ -122,7 +122,7 @@ module _ (b : List ℕ) where
   module _ (p : Filled) where
     -- the steps that may be filled next
     unfoldable pub readyOn : ℕ
-    readyOn = getD b (readyPlace (p .steps)) 0 % stepSets
+    readyOn = getD b (readyPlace (p .steps % stepSets)) 0 % stepSets
 
     module _ (s : ℕ) where
       -- the rules whose steps are all filled once s is

@@ -1,32 +1,30 @@
 -- What the code's steps come to, over plain values: a function's proof cites these with what its calls ensure.
 use mathlib.Core.Path.{_≡_, sym, ap, _∙_}
-use mathlib.Core.Bool.{Bool, true, false, not, _||_}
-use mathlib.Core.List.{[], _∷_}
-use Prim.Native.Nat.{ℕ, _+_, _≤_, _<_}
+use mathlib.Core.Bool.{Bool, true, false, not}
+use mathlib.Core.List.{List, [], _∷_}
+use Prim.Native.Nat.{ℕ, _+_, _*_, _≤_, _<_}
 use native.Mathlib.Nat.{mul-le-mul}
 use native.Mathlib.Omega.{arith}
 use borrow.Author.Tests.{lt-ltb, le-ltb, le-leb}
-use lib.Dec.{ltb, eqb}
+use lib.Dec.{ltb}
 use lib.ListN.{getD}
 use Rattle.sets.specs.Sets.{size, past}
-use Rattle.sets.specs.Stored.{width, number, noPeople}
+use Rattle.sets.specs.Stored.{noPeople}
 use Rattle.sets.proofs.Counting.{size-width}
 use Rattle.sets.proofs.NotBelow.{past-width}
 use Rattle.cases.specs.declared.Counts.{Counts}
 use Rattle.cases.specs.declared.Rule.{Rule}
 use Rattle.cases.specs.declared.Case.{Case}
-use Rattle.cases.specs.Case.{mostPeople, mostSteps, mostRoles, mostTables, mostRules, zeroStep, zeroRule, rolesHeld, rolesFor}
+use Rattle.cases.specs.Case.{mostPeople, mostSteps, mostRoles, mostTables, mostRules, zeroStep, zeroRule, entry, rolesHeld, rolesFor}
 use Rattle.cases.proofs.Rounds.{entry-at}
 use Rattle.refusals.specs.declared.Judged.{Judged}
 use Rattle.refusals.specs.declared.Judged.the-variants.{Good, Refused}
-use Rattle.refusals.specs.Refusals.{Check, refusal, orElse, refusalAt, judgedBy}
-use Rattle.refusals.specs.Offsets.{rowsIn}
+use Rattle.refusals.specs.Refusals.{Check, refusal, orElse, refusalAt, entryCheck, judgedBy}
+use Rattle.refusals.specs.Offsets.{rowsIn, personPlace, stepPlace, rowPlace, rulePlace}
 use Rattle.refusals.specs.CaseChecks.{tooMany, Limited, rightSize, stepEntry, rowEntry, ruleEntry, badPerson, badRoles, badOrder, badRow, badRule, entryChecks}
 use Rattle.refusals.proofs.Order.{judged-snoc}
-use Rattle.refusals.proofs.Search.{Searched, search-hit, search-end}
-use Rattle.judging.specs.declared.Kind.{Kind}
-use Rattle.judging.specs.declared.Kind.the-variants as kinds
-use Rattle.judging.specs.Kinds.{numberOf, manyOf, placeOf, failsAt, kindCheck}
+use Rattle.refusals.proofs.Search.{Searched, search-hit, search-end, found-cong}
+use Rattle.judging.specs.Parts.{heldPast, namedPast, badStep, rowPast, peopleCheck, rolesCheck, orderCheck, rowsCheck, rulesCheck}
 
 -- ---- Sets of steps are one byte wide
 
@@ -48,85 +46,63 @@ pub rule-left : (n : Counts) (r : Rule) {right : Bool} → 1 ≤ r .form → r .
 unfolding badRule
 rule-left n r lo hi k s g e = simp (le-leb _ _ lo, le-leb _ _ hi, lt-ltb _ _ k, lt-ltb _ _ s, g, e)
 
--- ---- Entries below their counts are read as they stand
+-- ---- The rows that there are have room
 
-pub rows-fit : (n : Counts) → Limited n → rowsIn n ≤ 192
+pub rows-fit : (n : Counts) → Limited n → rowsIn n ≤ mostTables * mostPeople
 rows-fit n h = mul-le-mul (h .tables) (h .people)
-
-module _ (c : Case) (i : ℕ) {r : Bool} where
-  pub held-fails : i < c .counts .people → r ≡ past 16 (getD (c .people) i 0) (c .counts .roles) → r ≡ badPerson c i
-  unfolding badPerson rolesHeld
-  held-fails l e = e ∙ ap (λ x. past 16 x (c .counts .roles)) (sym (entry-at 0 (c .counts .people) (c .people) i l))
-
-  pub named-fails : i < c .counts .steps → r ≡ past 16 (getD (c .steps) i zeroStep .roles) (c .counts .roles) → r ≡ badRoles c i
-  unfolding badRoles rolesFor
-  named-fails l e = e ∙ ap (λ s. past 16 (s .roles) (c .counts .roles)) (sym (entry-at zeroStep (c .counts .steps) (c .steps) i l))
-
-  pub order-fails : i < c .counts .steps
-      → r ≡ (past mostSteps (getD (c .steps) i zeroStep .before) i || not (eqb (getD (c .steps) i zeroStep .spare) 0)) → r ≡ badOrder c i
-  unfolding badOrder stepEntry
-  order-fails l e =
-      e ∙ ap (λ s. past mostSteps (s .before) i || not (eqb (s .spare) 0)) (sym (entry-at zeroStep (c .counts .steps) (c .steps) i l))
-
-  pub row-fails : i < rowsIn (c .counts) → r ≡ past width (number (getD (c .rows) i noPeople)) (c .counts .people) → r ≡ badRow c i
-  unfolding badRow rowEntry
-  row-fails l e = e ∙ ap (λ s. past width (number s) (c .counts .people)) (sym (entry-at noPeople (rowsIn (c .counts)) (c .rows) i l))
-
-  pub rule-fails : i < c .counts .rules → r ≡ badRule (c .counts) (getD (c .rules) i zeroRule) → r ≡ badRule (c .counts) (ruleEntry c i)
-  unfolding ruleEntry
-  rule-fails l e = e ∙ ap (badRule (c .counts)) (sym (entry-at zeroRule (c .counts .rules) (c .rules) i l))
-
--- ---- No kind has more than 192 entries
-
-pub many-fit : (n : Counts) (k : Kind) → Limited n → manyOf n k ≤ 192
-many-fit n kinds.Held h = omega (arith, h .people)
-many-fit n kinds.Named h = omega (arith, h .steps)
-many-fit n kinds.Order h = omega (arith, h .steps)
-many-fit n kinds.Row h = rows-fit n h
-many-fit n kinds.Rule h = omega (arith, h .rules)
 
 -- ---- The loop
 
-module _ (c : Case) (k : Kind) {i : ℕ} where
+module _ (number : ℕ) (place : ℕ → ℕ) {fails : ℕ → Bool} {m i : ℕ} where
   -- entry i is the first that fails
-  pub kind-hit : {j : Judged} {b : Bool} → Searched (failsAt c k) (manyOf (c .counts) k) i → i < manyOf (c .counts) k → b ≡ failsAt c k i → b ≡ true
-      → j ≡ Refused (refusal (numberOf k) (placeOf (c .counts) k i)) → j ≡ judgedBy (kindCheck c k ∷ [])
+  pub first-fails : {j : Judged} {b : Bool} {at : ℕ} → Searched fails m i → i < m → b ≡ fails i → b ≡ true
+      → j ≡ Refused (refusal number at) → at ≡ place i → j ≡ judgedBy (entryCheck number place fails m ∷ [])
   unfolding judgedBy
-  kind-hit s l e t q =
-      q ∙ ap (λ o. judgedBy (refusalAt (numberOf k) (placeOf (c .counts) k) o ∷ [])) (search-hit (failsAt c k) (manyOf (c .counts) k) s l e t)
+  first-fails s l e t q p =
+      q ∙ ap (λ x. Refused (refusal number x)) p ∙ ap (λ o. judgedBy (refusalAt number place o ∷ [])) (search-hit fails m s l e t)
 
   -- no entry fails
-  pub kind-end : Searched (failsAt c k) (manyOf (c .counts) k) i → manyOf (c .counts) k ≤ i → Good ≡ judgedBy (kindCheck c k ∷ [])
+  pub none-fails : Searched fails m i → m ≤ i → Good ≡ judgedBy (entryCheck number place fails m ∷ [])
   unfolding judgedBy
-  kind-end s l = ap (λ o. judgedBy (refusalAt (numberOf k) (placeOf (c .counts) k) o ∷ [])) (search-end (failsAt c k) (manyOf (c .counts) k) s l)
+  none-fails s l = ap (λ o. judgedBy (refusalAt number place o ∷ [])) (search-end fails m s l)
 
--- ---- The five kinds, one after another
+-- ---- The five checks
 
-pub all-kinds : (c : Case) {a b d e f p q r s : Judged}
-    → a ≡ judgedBy (kindCheck c kinds.Held ∷ [])
-    → b ≡ judgedBy (kindCheck c kinds.Named ∷ [])
+-- one after another, the earlier first
+pub in-turn : (u v w x y : Check) {a b d e f p q r s : Judged}
+    → a ≡ judgedBy (u ∷ [])
+    → b ≡ judgedBy (v ∷ [])
+    → d ≡ judgedBy (w ∷ [])
+    → e ≡ judgedBy (x ∷ [])
+    → f ≡ judgedBy (y ∷ [])
     → p ≡ orElse a b
-    → d ≡ judgedBy (kindCheck c kinds.Order ∷ [])
     → q ≡ orElse p d
-    → e ≡ judgedBy (kindCheck c kinds.Row ∷ [])
     → r ≡ orElse q e
-    → f ≡ judgedBy (kindCheck c kinds.Rule ∷ [])
     → s ≡ orElse r f
-    → s ≡ judgedBy (entryChecks c)
-unfolding entryChecks
-all-kinds c a b p d q e r f s =
-    s ∙ judged-snoc (held ∷ named ∷ order ∷ row ∷ []) (kindCheck c kinds.Rule)
-    (r ∙ judged-snoc (held ∷ named ∷ order ∷ []) row
-    (q ∙ judged-snoc (held ∷ named ∷ []) order (p ∙ judged-snoc (held ∷ []) named a b) d) e) f
-  where
-    held : Check
-    held = kindCheck c kinds.Held
+    → s ≡ judgedBy (u ∷ v ∷ w ∷ x ∷ y ∷ [])
+in-turn u v w x y a b d e f p q r s =
+    s ∙ judged-snoc (u ∷ v ∷ w ∷ x ∷ []) y
+    (r ∙ judged-snoc (u ∷ v ∷ w ∷ []) x (q ∙ judged-snoc (u ∷ v ∷ []) w (p ∙ judged-snoc (u ∷ []) v a b) d) e) f
 
-    named : Check
-    named = kindCheck c kinds.Named
+-- entries below their count are read as they stand
+same-check : {A : Type 0} (number : ℕ) (place : ℕ → ℕ) (fails : ℕ → A → Bool) (zero : A) (m : ℕ) (entries : List A)
+    → entryCheck number place (λ i. fails i (getD entries i zero)) m ≡ entryCheck number place (λ i. fails i (entry zero m entries i)) m
+same-check number place fails zero m entries =
+    ap (refusalAt number place) (found-cong _ _ m (λ i l. ap (fails i) (sym (entry-at zero m entries i l))))
 
-    order : Check
-    order = kindCheck c kinds.Order
-
-    row : Check
-    row = kindCheck c kinds.Row
+-- those of a case's parts are those of the case
+pub same-checks : (c : Case)
+    → (peopleCheck (c .counts) (c .people)
+    ∷ rolesCheck (c .counts) (c .steps)
+    ∷ orderCheck (c .counts) (c .steps)
+    ∷ rowsCheck (c .counts) (c .rows)
+    ∷ rulesCheck (c .counts) (c .rules) ∷ [])
+    ≡ entryChecks c
+unfolding entryChecks badPerson rolesHeld badRoles rolesFor badOrder stepEntry badRow rowEntry ruleEntry
+same-checks c = λ i.
+    let n = c .counts in
+    same-check 7 personPlace (λ u. heldPast n) 0 (n .people) (c .people) i
+    ∷ same-check 8 (stepPlace n) (λ s. namedPast n) zeroStep (n .steps) (c .steps) i
+    ∷ same-check 9 (stepPlace n) badStep zeroStep (n .steps) (c .steps) i
+    ∷ same-check 10 (rowPlace n) (λ j. rowPast n) noPeople (rowsIn n) (c .rows) i
+    ∷ same-check 11 (rulePlace n) (λ j. badRule n) zeroRule (n .rules) (c .rules) i ∷ []

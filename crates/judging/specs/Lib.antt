@@ -1,2 +1,2 @@
--- What the contracts of `judging` cite: the kinds of entry, and what each is judged by.
-pub mod Kinds
+-- What the contracts of `judging` cite: what the entries of each part are judged by.
+pub mod Parts

@@ -1,5 +1,7 @@
 // Judging a case in memory: 4, then 7 to 11. It knows the case, its refusals and where its entries would stand in a file. It reads no file and
 // knows nothing of boards or searches.
+//
+// Each number from 7 to 11 has a loop of its own, over one array and the counts: it ends at its count, and nothing in it takes a case.
 use cases::Case;
 use cases::Counts;
 use cases::Rule;
@@ -10,38 +12,23 @@ use layout::steps_at;
 use layout::tables_at;
 use refusals::Judged;
 use refusals::Refusal;
+use sets::People;
 use sets::past;
 use sets::size;
 ghost use mathlib.Core.Path.{_≡_};
-ghost use mathlib.Core.Bool.{false, not, _||_};
 ghost use mathlib.Core.List.{[], _∷_};
-ghost use Prim.Native.Nat.{_≤_, _<_};
-ghost use lib.Dec.{eqb};
-ghost use Rattle.sets.specs.Sets.{past};
+ghost use Prim.Native.Nat.{_<_};
 ghost use Rattle.cases.specs.Case.{mostSteps};
 ghost use Rattle.refusals.specs.Refusals.{refusal, judgedBy};
 ghost use Rattle.refusals.specs.CaseChecks.{tooMany, Limited, rightSize, badRule, entryChecks, judgedCase};
-ghost use Rattle.judging.specs.Kinds.{numberOf, manyOf, placeOf, failsAt, kindCheck};
-
-// What the entries of a case are judged for: the roles that a person holds, the roles that a step names, what precedes a step (with its spare
-// byte), the people that a table row names, and the rules.
-enum Kind {
-    Held,
-    Named,
-    Order,
-    Row,
-    Rule,
-}
+ghost use Rattle.judging.specs.Parts.{badStep, peopleCheck, rolesCheck, orderCheck, rowsCheck, rulesCheck};
 
 // Judges a case by 4 and 7 to 11: good, or the lowest number that it meets, at the place that the earliest such entry has in the case's file.
 pub fn judge_case(c: Case) -> Judged
     ensures { λ r. ⌜ r ≡ judgedCase c ⌝ }
 {
     if too_many(c.counts) {
-        Judged::Refused(Refusal {
-            number: 4,
-            place: 0,
-        })
+        refuse(4, 0)
     } else {
         judge_entries(c)
     }
@@ -71,60 +58,116 @@ fn judge_entries(c: Case) -> Judged
     requires { ⌜ Limited (c .counts) ⌝ }
     ensures { λ r. ⌜ r ≡ judgedBy (entryChecks c) ⌝ }
 {
-    earliest(c, Kind::Held)
-        .or_else(earliest(c, Kind::Named))
-        .or_else(earliest(c, Kind::Order))
-        .or_else(earliest(c, Kind::Row))
-        .or_else(earliest(c, Kind::Rule))
+    let n = c.counts;
+    let steps = c.steps;
+    let rows = c.rows;
+    let rules = c.rules;
+    let seven = judge_people(&c.people, n);
+    let eight = judge_roles(steps, n);
+    let nine = judge_order(steps, n);
+    let ten = judge_rows(rows, n);
+    let eleven = judge_rules(rules, n);
+    seven
+        .or_else(eight)
+        .or_else(nine)
+        .or_else(ten)
+        .or_else(eleven)
 }
 
-// The earliest entry of a kind that fails.
-fn earliest(c: Case, k: Kind) -> Judged
-    requires { ⌜ Limited (c .counts) ⌝ }
-    ensures { λ r. ⌜ r ≡ judgedBy (kindCheck c k ∷ []) ⌝ }
+// 7: the earliest person who holds a role not below the role count.
+fn judge_people(people: &[u16; Case::PEOPLE], n: Counts) -> Judged
+    requires { ⌜ Limited n ⌝ }
+    ensures { λ r. ⌜ r ≡ judgedBy (peopleCheck n (now (people .entry)) ∷ []) ⌝ }
 {
-    let n = many(c.counts, k);
+    let count = n.people as usize;
     let mut i: usize = 0;
-    while i < n {
-        if fails(c, k, i) {
-            return refuse(c.counts, k, i);
+    while i < count {
+        if past(people[i], n.roles) {
+            return refuse(7, 24 + 2 * i);
         }
         i += 1;
     }
     Judged::Good
 }
 
-// How many entries of a kind there are.
-fn many(n: Counts, k: Kind) -> usize
-    ensures { λ r. ⌜ r ≡ manyOf n k ⌝ }
+// 8: the earliest step that names such a role.
+fn judge_roles(steps: [StepEntry; Case::STEPS], n: Counts) -> Judged
+    requires { ⌜ Limited n ⌝ }
+    ensures { λ r. ⌜ r ≡ judgedBy (rolesCheck n steps ∷ []) ⌝ }
 {
-    match k {
-        Kind::Held => n.people as usize,
-        Kind::Named => n.steps as usize,
-        Kind::Order => n.steps as usize,
-        Kind::Row => rows(n),
-        Kind::Rule => n.rules as usize,
+    let count = n.steps as usize;
+    let mut i: usize = 0;
+    while i < count {
+        if past(steps[i].roles, n.roles) {
+            return refuse(8, steps_at(n) + 4 * i);
+        }
+        i += 1;
     }
+    Judged::Good
 }
 
-// Does entry i of a kind fail?
-fn fails(c: Case, k: Kind, i: usize) -> bool
-    requires { ⌜ Limited (c .counts) × (i < manyOf (c .counts) k) ⌝ }
-    ensures { λ r. ⌜ r ≡ failsAt c k i ⌝ }
+// 9: the earliest step that a step not below it must precede, or whose spare byte is not 0.
+fn judge_order(steps: [StepEntry; Case::STEPS], n: Counts) -> Judged
+    requires { ⌜ Limited n ⌝ }
+    ensures { λ r. ⌜ r ≡ judgedBy (orderCheck n steps ∷ []) ⌝ }
 {
-    match k {
-        Kind::Held => past(c.people[i], c.counts.roles),
-        Kind::Named => past(c.steps[i].roles, c.counts.roles),
-        Kind::Order => bad_order(c.steps[i], i),
-        Kind::Row => c.rows[i].past(c.counts.people),
-        Kind::Rule => bad_rule(c.counts, c.rules[i]),
+    let count = n.steps as usize;
+    let mut i: usize = 0;
+    while i < count {
+        if bad_step(steps[i], i) {
+            return refuse(9, steps_at(n) + 4 * i);
+        }
+        i += 1;
     }
+    Judged::Good
+}
+
+// 10: the earliest table row that names a person not below the people count.
+fn judge_rows(tables: [People; Case::ROWS], n: Counts) -> Judged
+    requires { ⌜ Limited n ⌝ }
+    ensures { λ r. ⌜ r ≡ judgedBy (rowsCheck n tables ∷ []) ⌝ }
+{
+    let count = rows(n);
+    let mut i: usize = 0;
+    while i < count {
+        if tables[i].past(n.people) {
+            return refuse(10, tables_at(n) + 4 * i);
+        }
+        i += 1;
+    }
+    Judged::Good
+}
+
+// 11: the earliest rule with a form, a relation, a step or a set X that it cannot have.
+fn judge_rules(rules: [Rule; Case::RULES], n: Counts) -> Judged
+    requires { ⌜ Limited n ⌝ }
+    ensures { λ r. ⌜ r ≡ judgedBy (rulesCheck n rules ∷ []) ⌝ }
+{
+    let count = n.rules as usize;
+    let mut i: usize = 0;
+    while i < count {
+        if bad_rule(n, rules[i]) {
+            return refuse(11, rules_at(n) + 4 * i);
+        }
+        i += 1;
+    }
+    Judged::Good
+}
+
+// The refusal of a number, at a place.
+fn refuse(number: u8, place: usize) -> Judged
+    ensures { λ r. ⌜ r ≡ Judged.Refused (refusal number place) ⌝ }
+{
+    Judged::Refused(Refusal {
+        number: number,
+        place: place,
+    })
 }
 
 // Is a step that must precede step s not below s, or the spare byte not 0?
-fn bad_order(step: StepEntry, s: usize) -> bool
+fn bad_step(step: StepEntry, s: usize) -> bool
     requires { ⌜ s < mostSteps ⌝ }
-    ensures { λ r. ⌜ r ≡ (past mostSteps (step .before) s || not (eqb (step .spare) 0)) ⌝ }
+    ensures { λ r. ⌜ r ≡ badStep s step ⌝ }
 {
     if past(step.before as u16, s as u16) {
         return true;
@@ -160,42 +203,4 @@ fn right_size(form: u8, group: u8) -> bool
 {
     let many = size(group as u16);
     if form == 1 { many == 1 } else { 1 <= many }
-}
-
-// The refusal of entry i of a kind.
-fn refuse(n: Counts, k: Kind, i: usize) -> Judged
-    requires { ⌜ Limited n × (i < manyOf n k) ⌝ }
-    ensures { λ r. ⌜ r ≡ Judged.Refused (refusal (numberOf k) (placeOf n k i)) ⌝ }
-{
-    Judged::Refused(Refusal {
-        number: number(k),
-        place: place(n, k, i),
-    })
-}
-
-// The number that entries of a kind are refused under.
-fn number(k: Kind) -> u8
-    ensures { λ r. ⌜ r ≡ numberOf k ⌝ }
-{
-    match k {
-        Kind::Held => 7,
-        Kind::Named => 8,
-        Kind::Order => 9,
-        Kind::Row => 10,
-        Kind::Rule => 11,
-    }
-}
-
-// Where entry i of a kind starts in the file.
-fn place(n: Counts, k: Kind, i: usize) -> usize
-    requires { ⌜ i ≤ 192 ⌝ }
-    ensures { λ r. ⌜ r ≡ placeOf n k i ⌝ }
-{
-    match k {
-        Kind::Held => 24 + 2 * i,
-        Kind::Named => steps_at(n) + 4 * i,
-        Kind::Order => steps_at(n) + 4 * i,
-        Kind::Row => tables_at(n) + 4 * i,
-        Kind::Rule => rules_at(n) + 4 * i,
-    }
 }

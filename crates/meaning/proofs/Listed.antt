@@ -8,14 +8,16 @@ use native.Mathlib.Decide.{decLt, ℕ-discrete}
 use native.Mathlib.Omega.{arith}
 use borrow.Author.Tests.{eq-eqb, ne-eqb, lt-ltb, le-ltb, ltb-true}
 use lib.Dec.{eqb, ltb}
-use lib.ListN.{length, getD}
+use lib.ListN.{length, getD, replicate, length-replicate, getD-replicate, List·getD-eq-default}
 use Rattle.sets.specs.Lists.{pick}
 use Rattle.sets.specs.Sets.{has}
+use Rattle.cases.specs.declared.Person.{Person}
 use Rattle.cases.specs.declared.Case.{Case}
 use Rattle.cases.specs.declared.Filled.{Filled}
 use Rattle.cases.specs.Case.{mostSteps, steps}
 use Rattle.cases.specs.Rules.{rulesHold}
 use Rattle.cases.specs.Plans.{holds, Valid}
+use Rattle.cases.specs.Positions.{zeroPerson}
 use Rattle.cases.specs.Filled.{startFilled, whoIn, filledWith, whoWith}
 use Rattle.cases.proofs.Rules.{hold-fewer}
 use Rattle.cases.proofs.Rounds.{may-known, may-step}
@@ -96,6 +98,23 @@ fill-who i q (u ∷ us) f h (suc j) l =
     let z : i + suc j ≡ suc i + j = omega arith in
     ap (whoIn (fillFrom (suc i) (putOn q u i) us)) z ∙ fill-who (suc i) (putOn q u i) us (put-formed q f u i (omega arith)) (omega arith) j (omega arith)
 
+-- what stands behind is as at the start
+fill-beyond : (i : ℕ) (q : Filled) (us : List ℕ) → Formed q → i + length us ≤ mostSteps → (x : ℕ) → i + length us ≤ x → whoIn (fillFrom i q us) x ≡ whoIn q x
+unfolding fillFrom
+fill-beyond i q [] f h x l = refl
+fill-beyond i q (u ∷ us) f h x l =
+    fill-beyond (suc i) (putOn q u i) us (put-formed q f u i (omega arith)) (omega arith) x (omega arith)
+    ∙ put-who q f u i (omega arith) x
+    ∙ ap (λ (d : Bool). pick d u (whoIn q x)) (ne-eqb x i (λ e. omega arith))
+
+nobody-first : (x : ℕ) → whoIn startFilled x ≡ 0
+unfolding whoIn
+nobody-first x = ap (λ (v : Person). v .0) (go (decLt x mostSteps))
+  where
+    go : Dec (x < mostSteps) → getD (replicate mostSteps zeroPerson) x zeroPerson ≡ zeroPerson
+    go (yes l) = getD-replicate mostSteps x zeroPerson zeroPerson l
+    go (no l) = let k : length (replicate mostSteps zeroPerson) ≤ x = omega (arith, length-replicate mostSteps zeroPerson) in List·getD-eq-default (replicate mostSteps zeroPerson) zeroPerson k
+
 module _ (p : List ℕ) (h : length p ≤ mostSteps) where
   pub filled-formed : Formed (filledBy p)
   unfolding filledBy
@@ -110,6 +129,14 @@ module _ (p : List ℕ) (h : length p ≤ mostSteps) where
   pub filled-who : (x : ℕ) → x < length p → whoIn (filledBy p) x ≡ getD p x 0
   unfolding filledBy
   filled-who x l = let z : x ≡ 0 + x = omega arith in ap (whoIn (fillFrom 0 startFilled p)) z ∙ fill-who 0 startFilled p formed-start (omega arith) x l
+
+  pub filled-at : (x : ℕ) → whoIn (filledBy p) x ≡ getD p x 0
+  unfolding filledBy
+  filled-at x = go (decLt x (length p))
+    where
+      go : Dec (x < length p) → whoIn (fillFrom 0 startFilled p) x ≡ getD p x 0
+      go (yes l) = filled-who x l
+      go (no l) = fill-beyond 0 startFilled p formed-start (omega arith) x (omega arith) ∙ nobody-first x ∙ sym (let k : length p ≤ x = omega arith in List·getD-eq-default p 0 k)
 
   -- the rules hold of both
   pub filled-holds : (c : Case) → rulesHold c (has (filledBy p .steps)) (whoIn (filledBy p)) ≡ holds c p

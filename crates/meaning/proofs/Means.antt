@@ -145,7 +145,9 @@ module _ (c : Case) (o : Order) where
         ≡ ltb (p .steps) (2 ^ steps c) && (ltb s (steps c) && (not (has (p .steps) s) && all (has (p .steps)) (stepsIn (preceding c o s))))
     unfolding readyOn readyOf
     ready-told p small s l =
-        steps-low (getD b (readyPlace (p .steps)) 0) s l
+        let low : p .steps % stepSets ≡ p .steps = omega arith in
+        ap (λ (f : ℕ). has (getD b (readyPlace f) 0 % stepSets) s) low
+        ∙ steps-low (getD b (readyPlace (p .steps)) 0) s l
         ∙ ap (λ (z : ℕ). has z s) (ready-at c o (p .steps) small) ∙ go (ltb (p .steps) (2 ^ steps c))
         ∙ ap (λ (d : Bool). ltb (p .steps) (2 ^ steps c) && (ltb s (steps c) && (not (has (p .steps) s) && d))) (within-steps (preceding c o s) (p .steps))
       where

@@ -23,7 +23,7 @@ use Rattle.cases.specs.Rules.{rulesHold}
 use Rattle.cases.specs.Plans.{may, holds, Valid}
 use Rattle.cases.specs.Filled.{startFilled, whoIn}
 use Rattle.cases.specs.Chain.{offers, place, chain, personOf, planOf, staticOf, decrementalOf, oneShotOf, dynamicOf, adviceAt, awayAt}
-use Rattle.cases.proofs.Rounds.{may-known, may-step, offered-in, start-valid, snoc-each}
+use Rattle.cases.proofs.Rounds.{may-step, offered-in, start-valid, snoc-each}
 use Rattle.boards.specs.Board.{allowedOn, readyOn, fitsOn}
 use Rattle.boards.specs.Arena.{Done, by, putOn, boardArena}
 use Rattle.laying.proofs.Tests.{same}
@@ -105,15 +105,13 @@ module _ (c : Case) (ready : Ready c) where
             at s (no q) = others s q
 
     -- the rules hold with person u at the next step exactly if u fits there
-    fits-next : (u : ℕ) → may c u (length p) ≡ true → has (fitsOn listedBoard (filledBy p) (length p)) u ≡ holds c (p ++ (u ∷ []))
+    pub fits-next : (u : ℕ) → length p < steps c → u < people c → has (fitsOn listedBoard (filledBy p) (length p)) u ≡ holds c (p ++ (u ∷ []))
     unfolding putOn
-    fits-next u e =
-        let l = may-step c u (length p) e in
+    fits-next u l k =
         let room : length p < mostSteps = omega (arith, l, ready .counts .steps) in
         let long : length (p ++ (u ∷ [])) ≤ mostSteps = omega (arith, length-append p (u ∷ []), room) in
         let f = filled-formed p short in
         let s = valid-sound c p v ready in
-        let k = may-known c u (length p) e in
         let h : (q : Filled) → q ≡ filledBy (p ++ (u ∷ [])) → rulesHold c (has (q .steps)) (whoIn q) ≡ holds c (p ++ (u ∷ [])) =
         λ q z. ap (λ (x : Filled). rulesHold c (has (x .steps)) (whoIn x)) z ∙ filled-holds (p ++ (u ∷ [])) long c in
         let d = h (putOn (filledBy p) u (length p)) (sym (filled-snoc p u)) in
@@ -129,7 +127,7 @@ module _ (c : Case) (ready : Ready c) where
         left = λ m h.
             let o = offered-in c p u m h in
             subst (λ (x : ℕ). onlyIf (has (fitsOn listedBoard (filledBy p) (length p)) x) (putOn (filledBy p) x (length p)) ≡ mapped filledBy (onlyIf (holds c (p ++ (x ∷ []))) (p ++ (x ∷ [])))) (sym (o .0))
-            (ap₂ (λ (d : Bool) (q : Filled). onlyIf d q) (fits-next p v u (o .1)) (sym (filled-snoc p u)) ∙ mapped-only filledBy (holds c (p ++ (u ∷ []))) (p ++ (u ∷ [])));
+            (ap₂ (λ (d : Bool) (q : Filled). onlyIf d q) (fits-next p v u (may-step c u (length p) (o .1)) known) (sym (filled-snoc p u)) ∙ mapped-only filledBy (holds c (p ++ (u ∷ []))) (p ++ (u ∷ [])));
         stays = λ m h q e.
             let o = offered-in c p u m h in
             let k = onlyIf-some (holds c (p ++ (m ∷ []))) (p ++ (m ∷ [])) q e in

@@ -1,4 +1,4 @@
--- A walk's end as a call says it, and a tidied position.
+-- A walk's end as a call says it, and the position of a list of persons.
 use mathlib.Core.Path.{_≡_, sym, ap, ap₂, _∙_}
 use mathlib.Core.List.{List, map}
 use Prim.Native.Nat.{ℕ, _≤_}
@@ -29,18 +29,6 @@ verdict-shown l c s = ap (λ x. verdict.No x c) (sym (stored-number s))
 
 pub away-shown : (l c : ℕ) (s : People) → away.People s c ≡ awayAnswer (verdictOutcome l (walked.No s c))
 away-shown l c s = ap (λ x. away.People x c) (sym (stored-number s))
-
-pub plan-shown : (n : ℕ) {p q : Position} → p ≡ q → _≡_ {A = PlanAnswer} (record { says = plan.Yes n; plan = p }) (record { says = plan.Yes n; plan = q })
-plan-shown n e = ap (λ r. record { says = plan.Yes n; plan = r }) e
-
--- ---- a position with nothing behind its entries
-
-abbrev pub entryOf : Position → ℕ → Person
-entryOf p i = personOf (getD (persons p) i 0)
-
-pub tidied-is : (p : Position) (l : List Person) (i : ℕ) → Filled (entryOf p) mostSteps i l → mostSteps ≤ i → record { who = l; len = p .len } ≡ positionOf (persons p)
-unfolding positionOf
-tidied-is p l i f h = ap₂ (λ w n. record { who = w; len = n }) (fill-end (entryOf p) mostSteps f h) (sym (persons-length p))
 
 -- the persons of the position of a list that fits
 pub persons-position : (q : List ℕ) → length q ≤ mostSteps → persons (positionOf q) ≡ q

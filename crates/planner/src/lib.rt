@@ -2,14 +2,17 @@
 // answer, and the contract fixes all of it.
 //
 // The answers hold all that a caller needs to act on step by step: after advice, append the person to the position and ask again.
+use asking::filled;
 use asking::judge_absent;
 use asking::judge_number;
 use asking::judge_position;
 use boards::PLACES;
 use cases::Case;
+use cases::Filled;
 use cases::Person;
 use cases::Position;
 use judging::judge_case;
+use laying::Order;
 use laying::lay_out;
 use refusals::Judged;
 use refusals::Refusal;
@@ -29,13 +32,13 @@ ghost use Prim.Native.Nat.{_≤_};
 ghost use Rattle.sets.specs.Stored.{number};
 ghost use Rattle.games.specs.Limit.{cut};
 ghost use Rattle.cases.specs.Chain.{planOf};
-ghost use Rattle.refusals.specs.CaseChecks.{judgedCase};
-ghost use Rattle.asking.specs.Asking.{judgedQuestion};
 ghost use Rattle.planner.specs.Calls.{planCall, walkOf, questionCall, staticCall, decrementalCall, oneShotCall, dynamicCall, adviceCall, awayCall};
-ghost use Rattle.planner.specs.OnBoard.{walkOn};
+ghost use Rattle.laying.specs.Ready.{Ready};
+ghost use Rattle.planner.specs.OnBoard.{planOn, walkOn, planAnswerOn, adviceReady, awayReady};
+ghost use Rattle.walks.specs.Trying.{OneReady};
 ghost use Rattle.walks.specs.Outcomes.{planOutcome, verdictOutcome, advisedOutcome};
 ghost use Rattle.cases.specs.Positions.{persons};
-ghost use Rattle.planner.specs.Answers.{positionOf, noPlan, planAnswer, verdictAnswer, adviceAnswer, awayAnswer};
+ghost use Rattle.planner.specs.Answers.{noPlan, planAnswer, verdictAnswer, adviceAnswer, awayAnswer};
 
 // What the plan call says. Every count is of trials; with "limit" it is the limit.
 pub enum PlanSays {
@@ -89,7 +92,7 @@ pub fn plan(case: Case, limit: u32) -> PlanAnswer
 {
     match judge_case(case) {
         Judged::Refused(refusal) => unplanned(PlanSays::Refused(refusal)),
-        Judged::Good => plan_good(case, limit),
+        Judged::Good => plan_ready(case, limit),
     }
 }
 
@@ -131,7 +134,7 @@ pub fn advice(case: Case, position: Position, t: u32, absent: People, limit: u32
 {
     match judge_case(case).or_else(judge_number(t)) {
         Judged::Refused(refusal) => AdviceAnswer::Refused(refusal),
-        Judged::Good => advise(case, position, t, absent, limit),
+        Judged::Good => advise_ready(case, position, t, absent, limit),
     }
 }
 
@@ -141,27 +144,28 @@ pub fn away(case: Case, position: Position, t: u32, limit: u32) -> AwayAnswer
 {
     match judge_case(case).or_else(judge_number(t)) {
         Judged::Refused(refusal) => AwayAnswer::Refused(refusal),
-        Judged::Good => keep_away(case, position, t, limit),
+        Judged::Good => away_ready(case, position, t, limit),
     }
 }
 
-// A good case is laid out as a board and walked.
-fn plan_good(case: Case, limit: u32) -> PlanAnswer
-    requires { ⌜ judgedCase case ≡ Judged.Good ⌝ }
+// A case that is ready is laid out as a board and walked.
+pub fn plan_ready(case: Case, limit: u32) -> PlanAnswer
+    requires { ⌜ Ready case ⌝ }
     ensures { λ r. ⌜ r ≡ planAnswer (cut limit (planOf case)) ⌝ }
 {
-    let board = lay_out(case);
+    let board = lay_out(case, Order::Listed);
     let people = case.counts.people as u8;
     let steps = case.counts.steps as u8;
-    let walked = plan_walk(
-        &board,
-        people,
-        People::none(),
-        Position::start(),
-        steps,
-        limit,
-    );
-    plan_said(walked, limit)
+    plan_laid(&board, people, steps, limit)
+}
+
+// The plan call on a board.
+pub fn plan_laid(board: &[u32; PLACES], people: u8, steps: u8, limit: u32) -> PlanAnswer
+    requires { ⌜ (people ≤ 32) × OneReady (now board) ⌝ }
+    ensures { λ r. ⌜ r ≡ planAnswerOn steps (cut limit (planOn (now (board .entry)) people steps)) ⌝ }
+{
+    let walked = plan_walk(board, people, People::none(), Filled::start(), steps, limit);
+    plan_said(walked, steps, limit)
 }
 
 // One of the questions about absence.
@@ -170,19 +174,34 @@ fn ask(question: Question, case: Case, t: u32, limit: u32) -> VerdictAnswer
 {
     match judge_case(case).or_else(judge_number(t)) {
         Judged::Refused(refusal) => VerdictAnswer::Refused(refusal),
-        Judged::Good => ask_good(question, case, t, limit),
+        Judged::Good => ask_ready(question, case, t, limit),
     }
 }
 
-// A good case is laid out as a board and walked.
-fn ask_good(question: Question, case: Case, t: u32, limit: u32) -> VerdictAnswer
-    requires { ⌜ judgedCase case ≡ Judged.Good ⌝ }
+// A case that is ready is laid out as a board and walked.
+pub fn ask_ready(question: Question, case: Case, t: u32, limit: u32) -> VerdictAnswer
+    requires { ⌜ Ready case ⌝ }
     ensures { λ r. ⌜ r ≡ verdictAnswer (cut limit (walkOf question case t)) ⌝ }
 {
-    let board = lay_out(case);
+    let board = lay_out(case, Order::Listed);
     let people = case.counts.people as u8;
     let steps = case.counts.steps as u8;
-    let walked = walk(question, &board, people, t, steps, limit);
+    ask_laid(question, &board, people, t, steps, limit)
+}
+
+// A question on a board.
+pub fn ask_laid(
+    question: Question,
+    board: &[u32; PLACES],
+    people: u8,
+    t: u32,
+    steps: u8,
+    limit: u32,
+) -> VerdictAnswer
+    requires { ⌜ (people ≤ 32) × OneReady (now board) ⌝ }
+    ensures { λ r. ⌜ r ≡ verdictAnswer (cut limit (walkOn question (now (board .entry)) people t steps)) ⌝ }
+{
+    let walked = walk(question, board, people, t, steps, limit);
     verdict_said(walked, limit)
 }
 
@@ -195,10 +214,10 @@ fn walk(
     steps: u8,
     limit: u32,
 ) -> Verdict
-    requires { ⌜ (steps ≤ 8) × (people ≤ 32) ⌝ }
+    requires { ⌜ (people ≤ 32) × OneReady (now board) ⌝ }
     ensures { λ r. ⌜ verdictOutcome limit r ≡ cut limit (walkOn question (now (board .entry)) people t steps) ⌝ }
 {
-    let start = Position::start();
+    let start = Filled::start();
     match question {
         Question::Static => static_walk(board, people, t, start, steps, limit),
         Question::Decremental => away_turn(board, people, t, People::none(), start, steps, limit),
@@ -207,12 +226,18 @@ fn walk(
     }
 }
 
-// Advice on a good case and t: the position and the absentees are judged on the board, then the board is walked.
-fn advise(case: Case, position: Position, t: u32, absent: People, limit: u32) -> AdviceAnswer
-    requires { ⌜ judgedQuestion case t ≡ Judged.Good ⌝ }
-    ensures { λ r. ⌜ r ≡ adviceCall case (persons position) t (number absent) limit ⌝ }
+// Advice on a case that is ready: the position and the absentees are judged, then the board is walked.
+pub fn advise_ready(
+    case: Case,
+    position: Position,
+    t: u32,
+    absent: People,
+    limit: u32,
+) -> AdviceAnswer
+    requires { ⌜ Ready case ⌝ }
+    ensures { λ r. ⌜ r ≡ adviceReady case (persons position) t (number absent) limit ⌝ }
 {
-    let board = lay_out(case);
+    let board = lay_out(case, Order::Listed);
     let people = case.counts.people;
     let steps = case.counts.steps;
     match judge_position(&board, people, steps, position).or_else(judge_absent(people, t, absent)) {
@@ -220,19 +245,27 @@ fn advise(case: Case, position: Position, t: u32, absent: People, limit: u32) ->
         Judged::Good => {
             let left = (steps as u8) - position.len;
             advice_said(
-                advice_walk(&board, people as u8, t, absent, position, left, limit),
+                advice_walk(
+                    &board,
+                    people as u8,
+                    t,
+                    absent,
+                    filled(position),
+                    left,
+                    limit,
+                ),
                 limit,
             )
         }
     }
 }
 
-// Away on a good case and t: the position is judged on the board, then the board is walked.
-fn keep_away(case: Case, position: Position, t: u32, limit: u32) -> AwayAnswer
-    requires { ⌜ judgedQuestion case t ≡ Judged.Good ⌝ }
-    ensures { λ r. ⌜ r ≡ awayCall case (persons position) t limit ⌝ }
+// Away on a case that is ready: the position is judged, then the board is walked.
+pub fn away_ready(case: Case, position: Position, t: u32, limit: u32) -> AwayAnswer
+    requires { ⌜ Ready case ⌝ }
+    ensures { λ r. ⌜ r ≡ awayReady case (persons position) t limit ⌝ }
 {
-    let board = lay_out(case);
+    let board = lay_out(case, Order::Listed);
     let people = case.counts.people;
     let steps = case.counts.steps;
     match judge_position(&board, people, steps, position) {
@@ -240,33 +273,16 @@ fn keep_away(case: Case, position: Position, t: u32, limit: u32) -> AwayAnswer
         Judged::Good => {
             let left = (steps as u8) - position.len;
             away_said(
-                dynamic_walk(&board, people as u8, t, position, left, limit),
+                dynamic_walk(&board, people as u8, t, filled(position), left, limit),
                 limit,
             )
         }
     }
 }
 
-// A position with nothing behind its entries.
-fn tidied(p: Position) -> Position
-    ensures { λ r. ⌜ r ≡ positionOf (persons p) ⌝ }
-{
-    let nobody = Person(0);
-    let mut who = [nobody; Case::STEPS];
-    let mut i: u8 = 0;
-    while (i as usize) < Case::STEPS {
-        who[i as usize] = p.person(i);
-        i += 1;
-    }
-    Position {
-        who: who,
-        len: p.len,
-    }
-}
-
-// What the plan walk came to, as the answer to a caller.
-fn plan_said(walked: Planned, limit: u32) -> PlanAnswer
-    ensures { λ r. ⌜ r ≡ planAnswer (planOutcome limit walked) ⌝ }
+// What the plan walk came to, as the answer to a caller: a plan fills all steps.
+fn plan_said(walked: Planned, steps: u8, limit: u32) -> PlanAnswer
+    ensures { λ r. ⌜ r ≡ planAnswerOn steps (planOutcome limit walked) ⌝ }
 {
     let end = walked.end;
     match end {
@@ -274,9 +290,13 @@ fn plan_said(walked: Planned, limit: u32) -> PlanAnswer
         PlanEnd::No(trials) => unplanned(PlanSays::No(trials)),
         PlanEnd::Yes(trials) => {
             let plan = walked.plan;
+            let who = plan.who;
             PlanAnswer {
                 says: PlanSays::Yes(trials),
-                plan: tidied(plan),
+                plan: Position {
+                    who: who,
+                    len: steps,
+                },
             }
         }
     }

@@ -3,18 +3,21 @@ use mathlib.Core.Path.{_≡_, refl, sym, ap, ap₂, _∙_}
 use mathlib.Core.Option.{Option, none, some}
 use mathlib.Core.List.{List, [], _∷_, _++_}
 use Prim.Native.Nat.{ℕ, zero, suc, _+_, _-_, _≤_, _<_, _^_, min}
-use native.Mathlib.Nat.{min-eq-left}
+use native.Mathlib.Nat.{min-eq-left, lt-of-lt-of-le}
 use native.Mathlib.Omega.{arith}
 use Rattle.sets.specs.Sets.{size, members, sets, nextSet}
 use Rattle.sets.specs.Stored.{width, number, noPeople, nextNumber}
 use Rattle.sets.specs.declared.Next.{Next}
 use Rattle.sets.specs.declared.Next.the-variants as next
 use Rattle.sets.specs.declared.People.{People}
+use lib.Pow.{pow-mono}
+use Rattle.sets.proofs.Counting.{size-width}
 use Rattle.sets.proofs.Records.{number-none}
 use Rattle.games.specs.Arena.{Arena}
 use Rattle.games.specs.Walks.{Walk, Search, lacking, ifNone, orElse, seek, plan, static, decremental, oneShot, dynamic, advice}
 use Rattle.games.specs.Limit.{stopped, whole, cut}
 use Rattle.games.proofs.Limits.{cut-past}
+use Rattle.games.proofs.Gone.{all-gone}
 use Rattle.cases.specs.Filled.{placedAt}
 use Rattle.cases.specs.declared.Person.{Person}
 use Rattle.cases.specs.declared.Step.{Step}
@@ -158,6 +161,12 @@ oneShot-turn b n t k p f =
     let e′ : suc (k - 1) ≡ k = omega arith in
     ap (λ (j : ℕ). orElse (passOn b n t (k - 1) p .got) (passOn b n t (k - 1) p .trials) (λ _. static (boardArena b n) t j p)) e
     ∙ ap (λ (j : ℕ). oneShot (boardArena b n) t j p) e′
+
+-- with all gone who may go, the rest is a plan without them
+pub gone-walk : (b : List ℕ) (n t k A z : ℕ) (p : Filled) → n ≤ width → A < 2 ^ n → z ≡ size width A → z ≡ t
+    → ifNone A (plan (boardArena b n) A k p) ≡ decremental (boardArena b n) t k A p
+gone-walk b n t k A z p h l e g =
+    sym (all-gone (boardArena b n) t A l (size-width n width A l (lt-of-lt-of-le l (pow-mono h)) ∙ sym e ∙ g) k p)
 
 -- ---- the next set, as the code answers it
 

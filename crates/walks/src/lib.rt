@@ -397,6 +397,9 @@ pub fn away_turn(
     if left == 0 {
         return Verdict::Yes(0);
     }
+    if away.size() == t {
+        return all_gone(board, people, away, p, left, limit);
+    }
     let step = next_step(board, p);
     let whole = line_up(board, people, People::none(), p, step);
     let mut gone = away;
@@ -442,6 +445,25 @@ fn without_plan(
         PlanEnd::Limit => Turn::Limit,
         PlanEnd::No(trials) => Turn::Beaten(trials),
         PlanEnd::Yes(trials) => Turn::Holds(trials),
+    }
+}
+
+// A turn of the away side with all gone who may go: nobody else can, and the rest is a plan without them.
+fn all_gone(
+    board: &[u32; PLACES],
+    people: u8,
+    away: People,
+    p: Filled,
+    left: u8,
+    limit: u32,
+) -> Verdict
+    requires { ⌜ (people ≤ 32) × OneReady (now board) ⌝ }
+    ensures { λ r. ⌜ verdictOutcome limit r ≡ cut limit (ifNone (number away) (plan (boardArena (now (board .entry)) people) (number away) left p)) ⌝ }
+{
+    match without_plan(board, people, away, p, left, limit) {
+        Turn::Limit => Verdict::Limit,
+        Turn::Beaten(trials) => Verdict::No(away, trials),
+        Turn::Holds(trials) => Verdict::Yes(trials),
     }
 }
 

@@ -1,4 +1,4 @@
-//! Cases made by a generator with a fixed seed, for the test and the benchmark.
+//! Cases for the test and the benchmark: all but the pigeonhole are made by a generator with a fixed seed.
 
 /// A small generator of numbers (xorshift64*).
 pub struct Dice(pub u64);
@@ -47,14 +47,20 @@ fn put(file: &mut Vec<u8>, numbers: &[u32]) {
     }
 }
 
-/// A good file of this shape.
-pub fn make(dice: &mut Dice, s: Shape) -> Vec<u8> {
+/// The header of a file with these counts.
+fn header(s: Shape) -> Vec<u8> {
     let steps_at = 24 + 2 * s.people;
     let tables_at = steps_at + 4 * s.steps;
     let rules_at = tables_at + 4 * s.tables * s.people;
     let total = rules_at + 4 * s.rules;
     let mut file = Vec::new();
     put(&mut file, &[1, s.people, s.steps, s.roles, s.tables, s.rules, 24, steps_at, tables_at, rules_at, total, 0]);
+    file
+}
+
+/// A good file of this shape.
+pub fn make(dice: &mut Dice, s: Shape) -> Vec<u8> {
+    let mut file = header(s);
     let some = |dice: &mut Dice, n: u32, of100: u32| (0..n).fold(0u32, |set, i| set | ((dice.below(100) < of100) as u32) << i);
     for _ in 0..s.people {
         let held = some(dice, s.roles, s.held);
@@ -86,5 +92,45 @@ pub fn make(dice: &mut Dice, s: Shape) -> Vec<u8> {
         };
         file.extend_from_slice(&[form as u8, relation as u8, step as u8, group as u8]);
     }
+    file
+}
+
+/// A good file of this shape where each step is for a role of its own, which `each` people hold, drawn from all.
+pub fn make_scarce(dice: &mut Dice, s: Shape, each: u32) -> Vec<u8> {
+    let mut file = make(dice, s);
+    let mut roles = vec![0; s.people as usize];
+    for i in 0..s.steps {
+        let mut left = each;
+        while left > 0 {
+            let u = dice.below(s.people) as usize;
+            left -= (roles[u] >> i & 1) ^ 1;
+            roles[u] |= 1 << i;
+        }
+    }
+    let mut entries = Vec::new();
+    put(&mut entries, &roles);
+    file[24..][..entries.len()].copy_from_slice(&entries);
+    for i in 0..s.steps {
+        let at = (24 + 2 * s.people + 4 * i) as usize;
+        file[at..][..2].copy_from_slice(&(1u16 << i).to_le_bytes());
+    }
+    file
+}
+
+/// A good file without a plan: eight steps that different people must do, and seven people who may do them all. The rules are one for
+/// each pair of steps, or one for each step and all before it.
+pub fn pigeonhole(pairs: bool) -> Vec<u8> {
+    let mut rules: Vec<[u8; 4]> = Vec::new();
+    for step in 1..8 {
+        if pairs {
+            rules.extend((0..step).map(|x| [1, 1, step, 1 << x]));
+        } else {
+            rules.push([3, 1, step, (1 << step) - 1]);
+        }
+    }
+    let mut file = header(Shape { people: 7, steps: 8, roles: 1, tables: 0, rules: rules.len() as u32, thick: 0, held: 0, same: 0, own: 0 });
+    put(&mut file, &[1; 7]);
+    put(&mut file, &[1, 0].repeat(8));
+    file.extend(rules.concat());
     file
 }

@@ -30,8 +30,8 @@ person-requires c κs = search needs
 bad-next-requires : tie.Need-bad-next-requires Inv-loop μ-loop
 bad-next-requires c κs = search needs
 
-cast-t15 : tie.Need-cast-t15 Inv-loop μ-loop
-cast-t15 c = search needs
+cast-t16 : tie.Need-cast-t16 Inv-loop μ-loop
+cast-t16 c = search needs
 
 returns-2 : tie.Need-returns-2 Inv-loop μ-loop
 returns-2 c =
@@ -53,8 +53,8 @@ loop-again : tie.Need-loop-again Inv-loop μ-loop
 loop-again c =
     let here = c .before .before .before in
     let at = here .before .before in
-    passed-step _ _ _ (at .loop .inv) (here .before .loop-test .taken) (omega arith) (here .person .ensures) (c .before .before .bad-next .ensures)
-    (c .before .if2 .left) (c .placed .ensures .1)
+    passed-step _ _ _ (at .loop .inv) (here .before .loop-test .taken) (here .person .ensures) (c .before .before .bad-next .ensures)
+    (c .before .if2 .left) (c .placed .ensures)
 
 returns-3 : tie.Need-returns-3 Inv-loop μ-loop
 returns-3 c = position-end _ _ _ _ (c .before .before .before .if1 .left) (c .before .loop .inv) (c .loop-test .left)
@@ -71,7 +71,7 @@ judge-position-spec =
     loop-holds
     person-requires
     bad-next-requires
-    cast-t15
+    cast-t16
     returns-2
     placed-requires
     add-i

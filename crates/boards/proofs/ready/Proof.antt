@@ -1,6 +1,5 @@
-use mathlib.Core.Path.{ap}
-use Prim.Native.Nat.{ℕ, _%_}
-use Rattle.boards.specs.Board.{stepSets, readyOn}
+use native.Mathlib.Omega.{arith}
+use Rattle.boards.proofs.Pairs.{ready-is}
 use borrow.Author.Needs.{needs}
 use Rattle.boards.proofs.ready.Statement.{statement}
 use Rattle.boards.proofs.ready.Tie as tie
@@ -24,8 +23,7 @@ cast-result-2 : tie.Need-cast-result-2
 cast-result-2 c = search needs
 
 returns : tie.Need-returns
-unfolding readyOn
-returns c = ap (λ (x : ℕ). x % stepSets) (c .number-at .ensures)
+returns c = ready-is _ _ _ (c .number-at .ensures) (omega arith)
 
 pub ready-spec : {M : Type 1} → statement M
 ready-spec =

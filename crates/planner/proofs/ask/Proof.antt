@@ -1,3 +1,4 @@
+use Rattle.asking.proofs.Laid.{good-ready}
 use mathlib.Core.Path.{refl, sym, ap, _∙_}
 use native.Mathlib.Omega.{arith}
 use Rattle.asking.proofs.Calls.{question-good}
@@ -9,7 +10,7 @@ use Rattle.planner.proofs.ask.Reads as reads
 use Rattle.planner.proofs.ask.Lts as lts
 use Rattle.asking.proofs.judge_number.Reads as judge-number-reads
 use Rattle.judging.proofs.judge_case.Reads as judge-case-reads
-use Rattle.planner.proofs.ask_good.Reads as ask-good-reads
+use Rattle.planner.proofs.ask_ready.Reads as ask-ready-reads
 use Rattle.refusals.proofs.Judged.or_else.Reads as or-else-reads
 
 judge-case-requires : tie.Need-judge-case-requires
@@ -27,14 +28,14 @@ enum-known-refusal c = search needs
 enum-told : tie.Need-enum-told
 enum-told c = search needs
 
-ask-good-requires : tie.Need-ask-good-requires
-ask-good-requires c κs = question-good _ _ ((question-judged _ _ _ _ _ (c .before .before .before .before .judge-case .ensures) (c .before .before .before .judge-number .ensures) (c .before .before .or-else .ensures)) ∙ c .enum-told .given .1) .0
+ask-ready-requires : tie.Need-ask-ready-requires
+ask-ready-requires c κs = good-ready _ (question-good _ _ ((question-judged _ _ _ _ _ (c .before .before .before .before .judge-case .ensures) (c .before .before .before .judge-number .ensures) (c .before .before .or-else .ensures)) ∙ c .enum-told .given .1) .0)
 
 returns : tie.Need-returns
 returns c = question-refused _ _ _ _ _ ((question-judged _ _ _ _ _ (c .before .before .before .before .before .judge-case .ensures) (c .before .before .before .before .judge-number .ensures) (c .before .before .before .or-else .ensures)) ∙ c .before .refusal .given .1)
 
 returns-2 : tie.Need-returns-2
-returns-2 c = question-answered _ _ _ _ _ ((question-judged _ _ _ _ _ (c .before .before .before .before .before .judge-case .ensures) (c .before .before .before .before .judge-number .ensures) (c .before .before .before .or-else .ensures)) ∙ c .before .enum-told .given .1) (c .ask-good .ensures)
+returns-2 c = question-answered _ _ _ _ _ ((question-judged _ _ _ _ _ (c .before .before .before .before .before .judge-case .ensures) (c .before .before .before .before .judge-number .ensures) (c .before .before .before .or-else .ensures)) ∙ c .before .enum-told .given .1) (c .ask-ready .ensures)
 
 pub ask-spec : {M : Type 1} → statement M
 ask-spec =
@@ -45,6 +46,6 @@ ask-spec =
     or-else-requires
     enum-known-refusal
     enum-told
-    ask-good-requires
+    ask-ready-requires
     returns
     returns-2)

@@ -1,15 +1,9 @@
 use mathlib.Core.Path.{sym, ap, _∙_}
-use Rattle.cases.specs.Positions.{persons}
-use Rattle.walks.specs.Outcomes
-use Rattle.planner.specs.Answers.{planAnswer}
-use Rattle.planner.proofs.Sayings.{plan-shown}
+use Rattle.walks.specs.Outcomes.{planEnded}
+use Rattle.planner.specs.OnBoard.{planAnswerOn}
 use borrow.Author.Needs.{needs}
 use Rattle.planner.proofs.plan_said.Statement.{statement}
 use Rattle.planner.proofs.plan_said.Tie as tie
-use Rattle.planner.proofs.plan_said.Reads as reads
-use Rattle.planner.proofs.plan_said.Lts as lts
-use Rattle.planner.proofs.tidied.Reads as tidied-reads
-use Rattle.planner.proofs.unplanned.Reads as unplanned-reads
 
 enum-told : tie.Need-enum-told
 enum-told c = search needs
@@ -26,17 +20,14 @@ unplanned-requires-2 c κs = search needs
 enum-known-end-2 : tie.Need-enum-known-end-2
 enum-known-end-2 c = search needs
 
-tidied-requires : tie.Need-tidied-requires
-tidied-requires c κs = search needs
-
 returns : tie.Need-returns
-returns c = c .unplanned .ensures ∙ sym (ap (λ e. planAnswer (Outcomes.planEnded (c .before .before .before .args .limit) (persons (c .before .before .before .args .walked .plan)) e)) (c .before .enum-told .given .1))
+returns c = c .unplanned .ensures ∙ sym (ap (λ e. planAnswerOn (c .before .before .before .args .steps) (planEnded (c .before .before .before .args .limit) (c .before .before .before .args .walked .plan) e)) (c .before .enum-told .given .1))
 
 returns-2 : tie.Need-returns-2
-returns-2 c = c .unplanned2 .ensures ∙ sym (ap (λ e. planAnswer (Outcomes.planEnded (c .before .before .before .before .args .limit) (persons (c .before .before .before .before .args .walked .plan)) e)) (c .before .before .end .given .1))
+returns-2 c = c .unplanned2 .ensures ∙ sym (ap (λ e. planAnswerOn (c .before .before .before .before .args .steps) (planEnded (c .before .before .before .before .args .limit) (c .before .before .before .before .args .walked .plan) e)) (c .before .before .end .given .1))
 
 returns-3 : tie.Need-returns-3
-returns-3 c = plan-shown _ (c .tidied .ensures) ∙ sym (ap (λ e. planAnswer (Outcomes.planEnded (c .before .before .before .before .before .args .limit) (persons (c .before .before .before .before .before .args .walked .plan)) e)) (c .before .before .before .end2 .given .1))
+returns-3 c = sym (ap (λ e. planAnswerOn (c .before .before .before .before .before .args .steps) (planEnded (c .before .before .before .before .before .args .limit) (c .before .before .before .before .before .args .walked .plan) e)) (c .before .before .before .end2 .given .1))
 
 pub plan-said-spec : {M : Type 1} → statement M
 plan-said-spec =
@@ -47,7 +38,6 @@ plan-said-spec =
     enum-known-end
     unplanned-requires-2
     enum-known-end-2
-    tidied-requires
     returns
     returns-2
     returns-3)

@@ -6,6 +6,7 @@ use borrow.Author.Needs.{needs}
 use Prim.Native.Nat.{_+_, _-_, _*_, _^_}
 use Rattle.sets.specs.Sets.{size}
 use Rattle.sets.specs.Stored.{width, number}
+use Rattle.games.specs.Limit.{cut}
 use Rattle.boards.specs.Arena.{boardArena}
 use Rattle.games.specs.Walks.{decremental}
 use Rattle.walks.specs.Outcomes.{verdictOutcome, turnOutcome, beatsOn}
@@ -14,7 +15,7 @@ use Rattle.walks.proofs.Lines.{line-without}
 use Rattle.walks.proofs.Cuts.{ends}
 use Rattle.walks.proofs.Scans.{Going, try-limit, try-nobody, try-person, sub-limit, sub-within, sub-done, sub-on}
 use Rattle.walks.proofs.Sweeps.{Sweep, sweep-known, sweep-few, sweep-limit, sweep-beats, sweep-beaten, sweep-within, sweep-end, sweep-on, sweep-higher}
-use Rattle.walks.proofs.Turns.{nobody-shown, above-zero, some-left, placed-is, deskHunt, desk-going, decremental-full, away-going, next-some, next-none}
+use Rattle.walks.proofs.Turns.{nobody-shown, gone-walk, above-zero, some-left, placed-is, deskHunt, desk-going, decremental-full, away-going, next-some, next-none}
 use Prim.Native.Nat.{ℕ, _<_}
 use borrow.Fn.Kinds.{In}
 use borrow.Fn.PlainCycle.{Measures, is, falls, and}
@@ -27,6 +28,8 @@ use Rattle.walks.proofs.+away_turn+desk_turn.Lts-desk_turn as desk-turn
 use Rattle.cases.proofs.Filled.placed.Reads as placed-reads
 use Rattle.sets.proofs.People.next.Reads as next-reads
 use Rattle.walks.proofs.behind.Reads as behind-reads
+use Rattle.walks.proofs.all_gone.Reads as all-gone-reads
+use Rattle.sets.proofs.People.size.Reads as size-reads
 use Rattle.walks.proofs.line_up.Reads as line-up-reads
 use Rattle.walks.proofs.next_step.Reads as next-step-reads
 use Rattle.walks.proofs.without.Reads as without-reads
@@ -64,7 +67,7 @@ away-turn-μ-loop board people t away p left limit step whole gone₀ used₀ go
 
 -- what the calls of away_turn ask and give
 abbrev away-turn-calls : ℕ → away-turn-lts.Claims
-away-turn-calls t = (next-step-reads.Asked, next-step-reads.Learnt, none-reads.Asked, none-reads.Learnt, line-up-reads.Asked, line-up-reads.Learnt, desk-turn-below t, desk-turn.Post, next-reads.Asked, next-reads.Learnt)
+away-turn-calls t = (size-reads.Asked, size-reads.Learnt, all-gone-reads.Asked, all-gone-reads.Learnt, next-step-reads.Asked, next-step-reads.Learnt, none-reads.Asked, none-reads.Learnt, line-up-reads.Asked, line-up-reads.Learnt, desk-turn-below t, desk-turn.Post, next-reads.Asked, next-reads.Learnt)
 
 -- what the calls of desk_turn ask and give
 abbrev desk-turn-calls : ℕ → desk-turn-lts.Claims
@@ -72,6 +75,17 @@ desk-turn-calls t = (without-reads.Asked, without-reads.Learnt, next-try-reads.A
 
 away-turn-returns : (t : ℕ) → away-turn-lts.Need-returns (away-turn-calls t) (away-turn-at t) away-turn.Post away-turn-Inv-loop away-turn-μ-loop
 away-turn-returns t c = ends _ _ none 0 (decremental-full _ _ _ (c .if1 .taken) _ _) (omega arith)
+
+away-turn-size-requires : (t : ℕ) → away-turn-lts.Need-size-requires (away-turn-calls t) (away-turn-at t) away-turn.Post away-turn-Inv-loop away-turn-μ-loop
+away-turn-size-requires t c κs = tt
+
+away-turn-all-gone-requires : (t : ℕ) → away-turn-lts.Need-all-gone-requires (away-turn-calls t) (away-turn-at t) away-turn.Post away-turn-Inv-loop away-turn-μ-loop
+away-turn-all-gone-requires t c κs = (c .before .before .before .pre .1 .0, c .before .before .before .pre .1 .1)
+
+away-turn-returns-2 : (t : ℕ) → away-turn-lts.Need-returns-2 (away-turn-calls t) (away-turn-at t) away-turn.Post away-turn-Inv-loop away-turn-μ-loop
+away-turn-returns-2 t c =
+    let at = c .before .before .before .before in
+    c .all-gone .ensures ∙ ap (cut _) (gone-walk _ _ _ _ _ _ _ (at .pre .1 .0) (at .pre .1 .2) (c .before .before .size .ensures) (c .before .if2 .taken))
 
 away-turn-next-step-requires : (t : ℕ) → away-turn-lts.Need-next-step-requires (away-turn-calls t) (away-turn-at t) away-turn.Post away-turn-Inv-loop away-turn-μ-loop
 away-turn-next-step-requires t c κs = tt
@@ -83,34 +97,34 @@ away-turn-line-up-requires : (t : ℕ) → away-turn-lts.Need-line-up-requires (
 away-turn-line-up-requires t c κs = c .before .next-step .ensures
 
 away-turn-loop-holds : (t : ℕ) → away-turn-lts.Need-loop-holds (away-turn-calls t) (away-turn-at t) away-turn.Post away-turn-Inv-loop away-turn-μ-loop
-away-turn-loop-holds t c = away-going _ _ _ _ _ _ _ (c .before .before .before .if1 .left) (c .before .before .before .before .pre .1 .2) (c .before .before .before .before .pre .1 .3)
+away-turn-loop-holds t c = away-going _ _ _ _ _ _ _ (c .before .before .before .before .before .if1 .left) (c .before .before .before .before .before .before .pre .1 .2) (c .before .before .before .before .before .before .pre .1 .3)
 
 away-turn-sub-desk-turn : (t : ℕ) → away-turn-lts.Need-sub-desk-turn (away-turn-calls t) (away-turn-at t) away-turn.Post away-turn-Inv-loop away-turn-μ-loop
 away-turn-sub-desk-turn t c = omega (arith, c .loop .inv .enough)
 
 away-turn-desk-turn-requires : (t : ℕ) → away-turn-lts.Need-desk-turn-requires (away-turn-calls t) (away-turn-at t) away-turn.Post away-turn-Inv-loop away-turn-μ-loop
-away-turn-desk-turn-requires t c κs = (omega arith, (above-zero (c .before .before .before .before .if1 .left), c .before .before .before .before .before .pre .1 .0, c .before .before .before .before .before .pre .1 .1, omega (arith, sweep-known (c .loop .inv)), omega (arith, sweep-few (c .loop .inv)), c .before .before .before .next-step .ensures, rw (nobody-shown (c .before .before .none .ensures)) at (c .before .line-up .ensures)))
+away-turn-desk-turn-requires t c κs = (omega arith, (above-zero (c .before .before .before .before .before .before .if1 .left), c .before .before .before .before .before .before .before .pre .1 .0, c .before .before .before .before .before .before .before .pre .1 .1, omega (arith, sweep-known (c .loop .inv)), omega (arith, sweep-few (c .loop .inv)), c .before .before .before .next-step .ensures, rw (nobody-shown (c .before .before .none .ensures)) at (c .before .line-up .ensures)))
 
 away-turn-enum-told : (t : ℕ) → away-turn-lts.Need-enum-told (away-turn-calls t) (away-turn-at t) away-turn.Post away-turn-Inv-loop away-turn-μ-loop
 away-turn-enum-told t c = search needs
 
-away-turn-returns-2 : (t : ℕ) → away-turn-lts.Need-returns-2 (away-turn-calls t) (away-turn-at t) away-turn.Post away-turn-Inv-loop away-turn-μ-loop
-away-turn-returns-2 t c = sweep-limit (c .before .before .before .loop .inv) (sym (ap (turnOutcome _ _) (c .enum-told .given .1)) ∙ c .before .before .desk-turn .ensures)
+away-turn-returns-3 : (t : ℕ) → away-turn-lts.Need-returns-3 (away-turn-calls t) (away-turn-at t) away-turn.Post away-turn-Inv-loop away-turn-μ-loop
+away-turn-returns-3 t c = sweep-limit (c .before .before .before .loop .inv) (sym (ap (turnOutcome _ _) (c .enum-told .given .1)) ∙ c .before .before .desk-turn .ensures)
 
 away-turn-enum-known-trials : (t : ℕ) → away-turn-lts.Need-enum-known-trials (away-turn-calls t) (away-turn-at t) away-turn.Post away-turn-Inv-loop away-turn-μ-loop
 away-turn-enum-known-trials t c = search needs
 
-away-turn-add-t19 : (t : ℕ) → away-turn-lts.Need-add-t19 (away-turn-calls t) (away-turn-at t) away-turn.Post away-turn-Inv-loop away-turn-μ-loop
-away-turn-add-t19 t c = omega (arith, c .before .before .before .before .before .before .before .before .before .fits .limit .fits, sweep-beats (c .before .before .before .before .loop .inv) _ _ (sym (ap (turnOutcome _ _) (c .before .trials .given .1)) ∙ c .before .before .before .desk-turn .ensures))
+away-turn-add-t20 : (t : ℕ) → away-turn-lts.Need-add-t20 (away-turn-calls t) (away-turn-at t) away-turn.Post away-turn-Inv-loop away-turn-μ-loop
+away-turn-add-t20 t c = omega (arith, c .before .before .before .before .before .before .before .before .before .before .before .fits .limit .fits, sweep-beats (c .before .before .before .before .loop .inv) _ _ (sym (ap (turnOutcome _ _) (c .before .trials .given .1)) ∙ c .before .before .before .desk-turn .ensures))
 
-away-turn-returns-3 : (t : ℕ) → away-turn-lts.Need-returns-3 (away-turn-calls t) (away-turn-at t) away-turn.Post away-turn-Inv-loop away-turn-μ-loop
-away-turn-returns-3 t c = sweep-beaten (c .before .before .before .before .loop .inv) _ _ (sym (ap (turnOutcome _ _) (c .before .trials .given .1)) ∙ c .before .before .before .desk-turn .ensures)
+away-turn-returns-4 : (t : ℕ) → away-turn-lts.Need-returns-4 (away-turn-calls t) (away-turn-at t) away-turn.Post away-turn-Inv-loop away-turn-μ-loop
+away-turn-returns-4 t c = sweep-beaten (c .before .before .before .before .loop .inv) _ _ (sym (ap (turnOutcome _ _) (c .before .trials .given .1)) ∙ c .before .before .before .desk-turn .ensures)
 
 away-turn-enum-known-trials-2 : (t : ℕ) → away-turn-lts.Need-enum-known-trials-2 (away-turn-calls t) (away-turn-at t) away-turn.Post away-turn-Inv-loop away-turn-μ-loop
 away-turn-enum-known-trials-2 t c = search needs
 
 away-turn-add-used : (t : ℕ) → away-turn-lts.Need-add-used (away-turn-calls t) (away-turn-at t) away-turn.Post away-turn-Inv-loop away-turn-μ-loop
-away-turn-add-used t c = omega (arith, c .before .before .before .before .before .before .before .before .before .fits .limit .fits, sweep-within (c .before .before .before .before .loop .inv) _ (sym (ap (turnOutcome _ _) (c .before .trials2 .given .1)) ∙ c .before .before .before .desk-turn .ensures))
+away-turn-add-used t c = omega (arith, c .before .before .before .before .before .before .before .before .before .before .before .fits .limit .fits, sweep-within (c .before .before .before .before .loop .inv) _ (sym (ap (turnOutcome _ _) (c .before .trials2 .given .1)) ∙ c .before .before .before .desk-turn .ensures))
 
 away-turn-next-requires : (t : ℕ) → away-turn-lts.Need-next-requires (away-turn-calls t) (away-turn-at t) away-turn.Post away-turn-Inv-loop away-turn-μ-loop
 away-turn-next-requires t c κs = tt
@@ -119,16 +133,16 @@ away-turn-enum-known-larger : (t : ℕ) → away-turn-lts.Need-enum-known-larger
 away-turn-enum-known-larger t c = search needs
 
 away-turn-loop-less : (t : ℕ) → away-turn-lts.Need-loop-less (away-turn-calls t) (away-turn-at t) away-turn.Post away-turn-Inv-loop away-turn-μ-loop
-away-turn-loop-less t c = let s = c .before .before .before .before .before .before .before .before .loop .inv in omega (arith, sweep-known s, sweep-higher s _ (next-some _ _ _ _ (c .before .before .before .before .before .before .before .before .before .before .before .before .before .pre .1 .0) (c .before .larger .given .1) (c .before .before .before .next .ensures)))
+away-turn-loop-less t c = let s = c .before .before .before .before .before .before .before .before .loop .inv in omega (arith, sweep-known s, sweep-higher s _ (next-some _ _ _ _ (c .before .before .before .before .before .before .before .before .before .before .before .before .before .before .before .pre .1 .0) (c .before .larger .given .1) (c .before .before .before .next .ensures)))
 
 away-turn-loop-again : (t : ℕ) → away-turn-lts.Need-loop-again (away-turn-calls t) (away-turn-at t) away-turn.Post away-turn-Inv-loop away-turn-μ-loop
-away-turn-loop-again t c = sweep-on (c .before .before .before .before .before .before .before .before .loop .inv) _ (sym (ap (turnOutcome _ _) (c .before .before .before .before .before .trials2 .given .1)) ∙ c .before .before .before .before .before .before .before .desk-turn .ensures) _ (next-some _ _ _ _ (c .before .before .before .before .before .before .before .before .before .before .before .before .before .pre .1 .0) (c .before .larger .given .1) (c .before .before .before .next .ensures))
+away-turn-loop-again t c = sweep-on (c .before .before .before .before .before .before .before .before .loop .inv) _ (sym (ap (turnOutcome _ _) (c .before .before .before .before .before .trials2 .given .1)) ∙ c .before .before .before .before .before .before .before .desk-turn .ensures) _ (next-some _ _ _ _ (c .before .before .before .before .before .before .before .before .before .before .before .before .before .before .before .pre .1 .0) (c .before .larger .given .1) (c .before .before .before .next .ensures))
 
 away-turn-enum-told-2 : (t : ℕ) → away-turn-lts.Need-enum-told-2 (away-turn-calls t) (away-turn-at t) away-turn.Post away-turn-Inv-loop away-turn-μ-loop
 away-turn-enum-told-2 t c = search needs
 
-away-turn-returns-4 : (t : ℕ) → away-turn-lts.Need-returns-4 (away-turn-calls t) (away-turn-at t) away-turn.Post away-turn-Inv-loop away-turn-μ-loop
-away-turn-returns-4 t c = sweep-end (c .before .before .before .before .before .before .before .loop .inv) _ (sym (ap (turnOutcome _ _) (c .before .before .before .before .trials2 .given .1)) ∙ c .before .before .before .before .before .before .desk-turn .ensures) (next-none _ _ _ _ (c .before .before .before .before .before .before .before .before .before .before .before .before .pre .1 .0) (c .enum-told2 .given .1) (c .before .before .next .ensures))
+away-turn-returns-5 : (t : ℕ) → away-turn-lts.Need-returns-5 (away-turn-calls t) (away-turn-at t) away-turn.Post away-turn-Inv-loop away-turn-μ-loop
+away-turn-returns-5 t c = sweep-end (c .before .before .before .before .before .before .before .loop .inv) _ (sym (ap (turnOutcome _ _) (c .before .before .before .before .trials2 .given .1)) ∙ c .before .before .before .before .before .before .desk-turn .ensures) (next-none _ _ _ _ (c .before .before .before .before .before .before .before .before .before .before .before .before .before .before .pre .1 .0) (c .enum-told2 .given .1) (c .before .before .next .ensures))
 
 abbrev desk-turn-Inv-loop : desk-turn-lts.InvT-loop
 desk-turn-Inv-loop board people t away p step left limit line₀ used₀ line used =
@@ -211,6 +225,9 @@ pub +away-turn+desk-turn-spec : {M : Type 1} → statement M
     away-turn-Inv-loop
     away-turn-μ-loop
     (away-turn-returns t)
+    (away-turn-size-requires t)
+    (away-turn-all-gone-requires t)
+    (away-turn-returns-2 t)
     (away-turn-next-step-requires t)
     (away-turn-none-requires t)
     (away-turn-line-up-requires t)
@@ -218,10 +235,10 @@ pub +away-turn+desk-turn-spec : {M : Type 1} → statement M
     (away-turn-sub-desk-turn t)
     (away-turn-desk-turn-requires t)
     (away-turn-enum-told t)
-    (away-turn-returns-2 t)
-    (away-turn-enum-known-trials t)
-    (away-turn-add-t19 t)
     (away-turn-returns-3 t)
+    (away-turn-enum-known-trials t)
+    (away-turn-add-t20 t)
+    (away-turn-returns-4 t)
     (away-turn-enum-known-trials-2 t)
     (away-turn-add-used t)
     (away-turn-next-requires t)
@@ -229,7 +246,7 @@ pub +away-turn+desk-turn-spec : {M : Type 1} → statement M
     (away-turn-loop-less t)
     (away-turn-loop-again t)
     (away-turn-enum-told-2 t)
-    (away-turn-returns-4 t))
+    (away-turn-returns-5 t))
     λ t. desk-turn-lts.spec (
       without-reads.Asked,
       without-reads.Learnt,

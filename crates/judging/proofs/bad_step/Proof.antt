@@ -2,8 +2,8 @@ use borrow.Author.Needs.{needs}
 use mathlib.Core.Path.{_∙_}
 use native.Mathlib.Omega.{arith}
 use Rattle.judging.proofs.Entries.{past-byte}
-use Rattle.judging.proofs.bad_order.Statement.{statement}
-use Rattle.judging.proofs.bad_order.Tie as tie
+use Rattle.judging.proofs.bad_step.Statement.{statement}
+use Rattle.judging.proofs.bad_step.Tie as tie
 
 cast-past : tie.Need-cast-past
 cast-past c = search needs
@@ -20,5 +20,5 @@ returns c = simp (past-byte _ _ (omega arith) (c .before .past .ensures) ∙ c .
 returns-2 : tie.Need-returns-2
 returns-2 c = simp (past-byte _ _ (omega arith) (c .before .before .past .ensures) ∙ c .before .if1 .left)
 
-pub bad-order-spec : {M : Type 1} → statement M
-bad-order-spec = tie.close (tie.spec cast-past cast-past-2 past-requires returns returns-2)
+pub bad-step-spec : {M : Type 1} → statement M
+bad-step-spec = tie.close (tie.spec cast-past cast-past-2 past-requires returns returns-2)

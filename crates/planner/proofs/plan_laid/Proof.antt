@@ -1,0 +1,25 @@
+use mathlib.Core.Path.{ap, _∙_}
+use Rattle.walks.proofs.Turns.{nobody-shown}
+use Rattle.planner.specs.OnBoard.{planAnswerOn}
+use borrow.Author.Needs.{needs}
+use Rattle.planner.proofs.plan_laid.Statement.{statement}
+use Rattle.planner.proofs.plan_laid.Tie as tie
+
+none-requires : tie.Need-none-requires
+none-requires c κs = search needs
+
+start-requires : tie.Need-start-requires
+start-requires c κs = search needs
+
+plan-walk-requires : tie.Need-plan-walk-requires
+plan-walk-requires c κs = search needs
+
+plan-said-requires : tie.Need-plan-said-requires
+plan-said-requires c κs = search needs
+
+returns : tie.Need-returns
+returns c = c .plan-said .ensures ∙ ap (planAnswerOn _) (rw (nobody-shown (c .before .before .before .none .ensures), c .before .before .start .ensures) at (c .before .plan-walk .ensures))
+
+pub plan-laid-spec : {M : Type 1} → statement M
+plan-laid-spec =
+    tie.close (tie.spec none-requires start-requires plan-walk-requires plan-said-requires returns)
