@@ -18,9 +18,6 @@ use Rattle.laying.specs.Parts.{Collected}
 pub has-in : (s t v : ℕ) (b : Bool) → b ≡ has s v → s ≡ t → b ≡ has t v
 has-in s t v b e q = e ∙ ap (λ (x : ℕ). has x v) q
 
-pub both-of : (a x y b : Bool) → b ≡ a && x → x ≡ y → b ≡ a && y
-both-of a x y b e q = e ∙ ap (λ (z : Bool). a && z) q
-
 module _ (test : ℕ → Bool) (w : ℕ) where
   pub collect-start : (set : ℕ) → set ≡ 0 → Collected test w 0 set
   collect-start set e =
@@ -68,7 +65,3 @@ module _ (test : ℕ → Bool) (w : ℕ) where
       go : (u : ℕ) → u < w → Dec (u < n) → test u && ltb u n ≡ test u
       go u l (yes k) = ap (λ (b : Bool). test u && b) (lt-ltb u n k) ∙ and-true-end (test u)
       go u l (no k) = ap (λ (b : Bool). b && ltb u n) (h u l (omega arith)) ∙ sym (h u l (omega arith))
-
-  -- everybody was asked
-  pub collect-all : {n set : ℕ} → Collected test w n set → w ≤ n → set ≡ setOf test w
-  collect-all {n} {set} g h = collect-end g (λ u l k. absurd (omega arith))

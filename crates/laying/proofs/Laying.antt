@@ -7,11 +7,11 @@ use native.Mathlib.Nat.{mul-le-mul}
 use native.Mathlib.Decide.{decLt}
 use native.Mathlib.Omega.{arith}
 use borrow.Author.Tests.{lt-ltb, le-ltb, ltb-true, ltb-false}
-use lib.Dec.{eqb, ltb}
-use lib.ListN.{length, getD, List·getD-eq-default}
+use lib.Dec.{ltb}
+use lib.ListN.{getD, List·getD-eq-default}
 use lib.Pow.{pow-pos}
 use Rattle.sets.specs.Lists.{pick, upto, keep, all}
-use Rattle.sets.specs.Sets.{has, setOf, meets, within, everybody}
+use Rattle.sets.specs.Sets.{has, setOf, meets, within}
 use Rattle.sets.specs.Stored.{width, setAt, number, noPeople}
 use Rattle.sets.proofs.Lists.{and-true, and-false-end, upto-in, all-cong}
 use Rattle.sets.proofs.Bits.{has-empty}

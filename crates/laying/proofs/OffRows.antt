@@ -1,19 +1,19 @@
 -- What is read off the rows of a board stays while what stands behind the rows is put.
-use mathlib.Core.Path.{_≡_, refl, sym, ap, ap₂, _∙_}
-use mathlib.Core.Bool.{Bool, true, false, _&&_}
+use mathlib.Core.Path.{_≡_, ap, _∙_}
+use mathlib.Core.Bool.{_&&_}
 use mathlib.Core.List.{List}
-use Prim.Native.Nat.{ℕ, _+_, _*_, _≤_, _<_}
+use Prim.Native.Nat.{ℕ, _≤_, _<_}
 use native.Mathlib.Decide.{decLt}
 use native.Mathlib.Omega.{arith}
-use borrow.Author.Tests.{lt-ltb, le-ltb}
+use borrow.Author.Tests.{le-ltb}
 use lib.Dec.{ltb}
 use lib.ListN.{getD}
-use Rattle.sets.specs.Sets.{has, setOf}
+use Rattle.sets.specs.Sets.{has}
 use Rattle.sets.specs.Stored.{width, setAt}
 use Rattle.sets.proofs.Counting.{setOf-ext}
 use Rattle.cases.specs.Case.{mostPeople}
 use Rattle.boards.specs.Board.{relations, columnsFrom, loopsFrom, rowPlace}
-use Rattle.laying.specs.Parts.{columnIn, loopsIn, laidFrom, laidBlocks, Put, PutBlocks}
+use Rattle.laying.specs.Parts.{columnIn, loopsIn, laidFrom, Put, PutBlocks}
 use Rattle.laying.proofs.Writing.{from-below, from-cong, blocks-below}
 
 -- two boards with the same rows

@@ -1,6 +1,6 @@
 -- What is read off the sets of steps and of rules on a board: which steps are ready and which rules are complete; and that it stays while what
 -- stands behind the sets is put.
-use mathlib.Core.Path.{_≡_, refl, sym, ap, ap₂, _∙_}
+use mathlib.Core.Path.{_≡_, sym, ap, ap₂, _∙_}
 use mathlib.Core.Bool.{Bool, true, false, not, _&&_, _||_}
 use mathlib.Core.List.{List}
 use Prim.Native.Nat.{ℕ, _+_, _*_, _/_, _%_, _^_, _≤_, _<_}
@@ -16,7 +16,7 @@ use Rattle.sets.proofs.Counting.{has-setOf, setOf-has, setOf-ext}
 use Rattle.sets.proofs.Listed.{within-mem, mem-within}
 use Rattle.cases.specs.Case.{mostSteps, mostRules}
 use Rattle.boards.specs.Board.{stepSets, rulesFrom, readyFrom, completeFrom, namedPlace, beforePlace}
-use Rattle.laying.specs.Parts.{readyIn, namingOnly, completeIn, laidFrom, Naming, Put}
+use Rattle.laying.specs.Parts.{readyIn, namingOnly, completeIn, Naming, Put}
 use Rattle.laying.proofs.Tests.{same, and-assoc, all-next}
 use Rattle.laying.proofs.Writing.{from-below}
 

@@ -1,16 +1,11 @@
 -- The steps that must precede a step, and the words of the tables' rows.
-use mathlib.Core.Path.{_≡_, refl, sym, ap, ap₂, _∙_}
-use mathlib.Core.Bool.{Bool, true, false}
+use mathlib.Core.Path.{_≡_, sym, ap, _∙_}
 use mathlib.Core.List.{List}
 use Prim.Native.Nat.{ℕ, _+_, _-_, _*_, _^_, _≤_, _<_}
 use native.Mathlib.Decide.{decLt}
 use native.Mathlib.Omega.{arith}
-use borrow.Author.Tests.{lt-ltb, le-ltb}
-use lib.Dec.{ltb}
 use lib.ListN.{length, getD, length-replicate}
 use lib.Seq.{ext-getD}
-use Rattle.sets.specs.Lists.{pick}
-use Rattle.sets.specs.Sets.{bit, setOf}
 use Rattle.sets.specs.Stored.{number, noPeople}
 use Rattle.sets.specs.declared.People.{People}
 use Rattle.sets.proofs.Masks.{everybody-low}
@@ -20,7 +15,6 @@ use Rattle.words.proofs.Parts.{length-table, getD-table}
 use Rattle.cases.specs.declared.StepEntry.{StepEntry}
 use Rattle.cases.specs.Case.{mostPeople, mostSteps, mostTables, entry}
 use Rattle.cases.proofs.Rounds.{entry-at, entry-past}
-use Rattle.laying.specs.declared.Order.{Order}
 use Rattle.laying.specs.declared.Order.the-variants as order
 use Rattle.laying.specs.Parts.{precedingIn, laidFrom}
 use Rattle.laying.proofs.Writing.{blank, blank-at, from-length, from-in, from-behind}

@@ -183,8 +183,8 @@ fn loops(board: &[u32; PLACES], people: u8, k: u8) -> People
     let mut set = People::none();
     let mut u: u8 = 0;
     while u < people {
-        let row = People::at(board, (k as usize) * Case::PEOPLE + (u as usize));
-        set = with_if(set, u, row.has(u));
+        let own = People::at(board, (k as usize) * Case::PEOPLE + (u as usize));
+        set = with_if(set, u, own.has(u));
         u += 1;
     }
     set
@@ -265,8 +265,8 @@ fn put_before(board: &mut [u32; PLACES], steps: [StepEntry; Case::STEPS], n: u8,
 {
     let mut s: u8 = 0;
     while s < n {
-        let step = steps[s as usize];
-        board[BEFORE + (s as usize)] = before(step, order, s) as u32;
+        let entry = steps[s as usize];
+        board[BEFORE + (s as usize)] = before(entry, order, s) as u32;
         s += 1;
     }
 }

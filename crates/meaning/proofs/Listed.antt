@@ -1,7 +1,6 @@
 -- Persons placed one by one from the first step on: which steps are filled, and by whom.
-use mathlib.Core.Path.{_≡_, refl, sym, ap, ap₂, _∙_, subst}
-use mathlib.Core.Logic.{_⊎_, inl, inr}
-use mathlib.Core.Bool.{Bool, true, false, _||_}
+use mathlib.Core.Path.{_≡_, refl, sym, ap, ap₂, _∙_}
+use mathlib.Core.Bool.{Bool, _||_}
 use mathlib.Core.List.{List, [], _∷_, _++_}
 use Prim.Native.Nat.{ℕ, zero, suc, _+_, _≤_, _<_}
 use native.Mathlib.Nat.{not-suc-le-zero}
@@ -15,11 +14,11 @@ use Rattle.sets.specs.Sets.{has}
 use Rattle.cases.specs.declared.Person.{Person}
 use Rattle.cases.specs.declared.Case.{Case}
 use Rattle.cases.specs.declared.Filled.{Filled}
-use Rattle.cases.specs.Case.{mostSteps, people, steps}
+use Rattle.cases.specs.Case.{mostSteps, steps}
 use Rattle.cases.specs.Rules.{rulesHold}
-use Rattle.cases.specs.Plans.{may, holds, Valid}
+use Rattle.cases.specs.Plans.{holds, Valid}
 use Rattle.cases.specs.Positions.{zeroPerson}
-use Rattle.cases.specs.Filled.{startFilled, whoIn, placedAt, filledWith, whoWith}
+use Rattle.cases.specs.Filled.{startFilled, whoIn, filledWith, whoWith}
 use Rattle.cases.proofs.Rules.{hold-fewer}
 use Rattle.cases.proofs.Rounds.{may-known, may-step}
 use Rattle.cases.proofs.Fillings.{placed-filled, placed-who, start-empty}

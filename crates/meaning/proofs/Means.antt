@@ -2,12 +2,12 @@
 use mathlib.Core.Path.{_≡_, refl, sym, ap, ap₂, _∙_}
 use mathlib.Core.Logic.{_⊎_, inl, inr}
 use mathlib.Core.Bool.{Bool, true, false, not, _&&_, _||_, true≢false}
-use mathlib.Core.List.{List, [], _∷_, map}
+use mathlib.Core.List.{List}
 use Prim.Native.Nat.{ℕ, _+_, _*_, _/_, _%_, _^_, _≤_, _<_}
 use native.Mathlib.Nat.{lt-of-lt-of-le}
 use native.Mathlib.Decide.{decLt, ℕ-discrete}
 use native.Mathlib.Omega.{arith}
-use borrow.Author.Tests.{eq-eqb, ne-eqb, eqb-true, lt-ltb, le-ltb, ltb-true}
+use borrow.Author.Tests.{eq-eqb, ne-eqb, eqb-true, lt-ltb, ltb-true}
 use lib.Dec.{eqb, ltb}
 use lib.ListN.{getD}
 use lib.Pow.{pow-mono}
@@ -22,11 +22,11 @@ use Rattle.sets.proofs.Listed.{within-mem, mem-within}
 use Rattle.cases.specs.declared.Rule.{Rule}
 use Rattle.cases.specs.declared.Case.{Case}
 use Rattle.cases.specs.declared.Filled.{Filled}
-use Rattle.cases.specs.Case.{mostPeople, mostSteps, mostRules, people, steps, tables, rules, entry, zeroRule}
+use Rattle.cases.specs.Case.{mostSteps, mostRules, people, steps, tables, rules, zeroRule}
 use Rattle.cases.specs.Rules.{related, stepsIn, needed, filled, kept, rulesHold}
 use Rattle.cases.specs.Plans.{may}
 use Rattle.cases.specs.Filled.{whoIn, filledWith, whoWith}
-use Rattle.cases.proofs.Rules.{needed-cong, kept-fewer}
+use Rattle.cases.proofs.Rules.{needed-cong}
 use Rattle.cases.proofs.Rounds.{may-known, entry-at}
 use Rattle.boards.specs.Board.{relations, stepSets, rowPlace, readyPlace, unpacked, allowedOn, namedOn, completeOn, ruleOn, readyOn, fullOn, dueOn, pairOn, keptOn, fitsOn}
 use Rattle.boards.proofs.Pairs.{pair-as}

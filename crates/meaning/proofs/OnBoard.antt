@@ -10,7 +10,7 @@ use native.Mathlib.Omega.{arith}
 use borrow.Author.Tests.{eq-eqb, ne-eqb, lt-ltb}
 use lib.Dec.{eqb, ltb}
 use lib.ListN.{length, length-append}
-use Rattle.sets.specs.Lists.{_∈_, onlyIf, consIf, from, upto, keep}
+use Rattle.sets.specs.Lists.{onlyIf, consIf, from, upto, keep}
 use Rattle.sets.specs.Sets.{has}
 use Rattle.sets.proofs.Lists.{onlyIf-some, and-false-end, keep-cong, keep-append, keep-nothing, upto-in, from-lo, from-hi, from-append}
 use Rattle.games.specs.Arena.{Arena}
@@ -23,15 +23,13 @@ use Rattle.cases.specs.Rules.{rulesHold}
 use Rattle.cases.specs.Plans.{may, holds, Valid}
 use Rattle.cases.specs.Filled.{startFilled, whoIn}
 use Rattle.cases.specs.Chain.{offers, place, chain, personOf, planOf, staticOf, decrementalOf, oneShotOf, dynamicOf, adviceAt, awayAt}
-use Rattle.cases.proofs.Rounds.{may-known, may-step, offered-in, start-valid, snoc-each}
+use Rattle.cases.proofs.Rounds.{may-step, offered-in, start-valid, snoc-each}
 use Rattle.boards.specs.Board.{allowedOn, readyOn, fitsOn}
 use Rattle.boards.specs.Arena.{Done, by, putOn, boardArena}
 use Rattle.laying.proofs.Tests.{same}
-use Rattle.laying.specs.declared.Order.{Order}
 use Rattle.laying.specs.declared.Order.the-variants as order
 use Rattle.laying.specs.Laid.{laidOut}
 use Rattle.laying.specs.Ready.{Ready}
-use Rattle.meaning.specs.Sound.{Formed, Sound}
 use Rattle.meaning.specs.Listed.{fillFrom, filledBy}
 use Rattle.meaning.proofs.Means.{allowed-means}
 use Rattle.meaning.proofs.Placing.{sound-placed, placed-fits, listed-ready}

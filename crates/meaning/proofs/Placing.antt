@@ -2,7 +2,6 @@
 -- one that is ready.
 use mathlib.Core.Path.{_≡_, refl, sym, ap, ap₂, _∙_}
 use mathlib.Core.Bool.{Bool, true, false, not, _&&_, _||_, true≢false}
-use mathlib.Core.List.{List}
 use Prim.Native.Nat.{ℕ, _^_, _≤_, _<_}
 use native.Mathlib.Decide.{decLt, ℕ-discrete}
 use native.Mathlib.Omega.{arith}
@@ -26,10 +25,9 @@ use Rattle.cases.specs.Filled.{startFilled, whoIn, placedAt, filledWith, whoWit
 use Rattle.cases.proofs.Rules.{hold-fewer}
 use Rattle.cases.proofs.Fillings.{placed-there, placed-filled, placed-who}
 use Rattle.boards.specs.Board.{readyOn, fitsOn}
-use Rattle.laying.proofs.Tests.{same}
 use Rattle.laying.specs.declared.Order.{Order}
 use Rattle.laying.specs.declared.Order.the-variants as order
-use Rattle.laying.specs.Laid.{laidOut, preceding}
+use Rattle.laying.specs.Laid.{laidOut}
 use Rattle.laying.specs.Ready.{Ready}
 use Rattle.meaning.specs.Sound.{Formed, Sound}
 use Rattle.meaning.proofs.Means.{no-more, ready-told, ready-means, fits-means}

@@ -1,5 +1,4 @@
 use Prim.Native.Nat.{_-_}
-use mathlib.Core.Path.{refl}
 use native.Mathlib.Omega.{arith}
 use Rattle.cases.specs.Case.{mostSteps}
 use Rattle.laying.specs.Parts.{Naming}

@@ -1,4 +1,3 @@
-use mathlib.Core.Path.{sym, ap, _∙_}
 use native.Mathlib.Omega.{arith}
 use Rattle.sets.proofs.Masks.{difference-is}
 use Rattle.cases.specs.Case.{mostRules}

@@ -19,14 +19,14 @@ abbrev μ-loop : tie.MeasureT-loop
 loop-holds : tie.Need-loop-holds Inv-loop μ-loop
 loop-holds c = put-start _ _ _ _
 
-cast-step : tie.Need-cast-step Inv-loop μ-loop
-cast-step c = omega arith
+cast-entry : tie.Need-cast-entry Inv-loop μ-loop
+cast-entry c = omega arith
 
-mul-step : tie.Need-mul-step Inv-loop μ-loop
-mul-step c = omega arith
+mul-entry : tie.Need-mul-entry Inv-loop μ-loop
+mul-entry c = omega arith
 
-array-copy-out-step : tie.Need-array-copy-out-step Inv-loop μ-loop
-array-copy-out-step c = omega arith
+array-copy-out-entry : tie.Need-array-copy-out-entry Inv-loop μ-loop
+array-copy-out-entry c = omega arith
 
 before-requires : tie.Need-before-requires Inv-loop μ-loop
 before-requires c κs = search needs
@@ -65,9 +65,9 @@ put-before-spec =
     Inv-loop
     μ-loop
     loop-holds
-    cast-step
-    mul-step
-    array-copy-out-step
+    cast-entry
+    mul-entry
+    array-copy-out-entry
     before-requires
     cast-board
     cast-board-2

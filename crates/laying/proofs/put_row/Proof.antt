@@ -1,4 +1,4 @@
-use mathlib.Core.Path.{refl, ap, _∙_}
+use mathlib.Core.Path.{refl, _∙_}
 use Prim.Native.Nat.{_-_, _*_}
 use Rattle.cases.specs.Case.{mostPeople}
 use Rattle.laying.specs.Parts.{rowIn, Put}

@@ -1,5 +1,4 @@
 use Prim.Native.Nat.{_-_}
-use mathlib.Core.Path.{refl}
 use Rattle.laying.specs.Parts.{rowIn, PutBlocks}
 use Rattle.laying.proofs.Writing.{put-blocks-start, put-blocks-step, put-blocks-end}
 use native.Mathlib.Omega.{arith}

@@ -1,4 +1,3 @@
-use mathlib.Core.Path.{refl, ap, _∙_}
 use Prim.Native.Nat.{_-_, _*_}
 use Rattle.cases.specs.Case.{mostPeople, mostTables}
 use lib.ListN.{getD}
