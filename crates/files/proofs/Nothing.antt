@@ -6,6 +6,7 @@ use Rattle.cases.specs.Case.{emptyCase, zeroed}
 use Rattle.refusals.specs.declared.Refusal.{Refusal}
 use Rattle.refusals.specs.declared.Judged.{Judged}
 use Rattle.refusals.specs.declared.Judged.the-variants.{Good, Refused}
+use Rattle.refusals.specs.CaseChecks.{judgedCase}
 use Rattle.layout.specs.declared.Part.{Part}
 use Rattle.layout.specs.Layout.{countsOf, caseOf, startOf, endOf}
 use Rattle.layout.proofs.Above.{held-zeroed}
@@ -13,6 +14,7 @@ use Rattle.files.specs.declared.FileRead.{FileRead}
 use Rattle.files.specs.Checks.{judgedFile}
 use Rattle.files.specs.Reading.{ifGood, readOf, refusedRead}
 use Rattle.files.specs.Parts.{Slice, between, nothingOf, partOf}
+use Rattle.files.proofs.Headers.{right-header, good-header}
 
 module _ (f : List ℕ) where
   -- A refused file gives its refusal and the empty case.
@@ -24,6 +26,13 @@ module _ (f : List ℕ) where
   pub read-good : judgedFile f ≡ Good → readOf f ≡ record { judged = Good; held = caseOf f }
   unfolding readOf
   read-good e = ap (λ (j : Judged). record { judged = j; held = ifGood j (caseOf f) emptyCase }) e
+
+  -- which is good,
+  pub held-good : judgedFile f ≡ Good → judgedCase (caseOf f) ≡ Good
+  held-good e = sym (right-header f (good-header f e)) ∙ e
+
+  pub read-case-good : judgedFile f ≡ Good → judgedCase (readOf f .held) ≡ Good
+  read-case-good e = ap (λ (r : FileRead). judgedCase (r .held)) (read-good e) ∙ held-good e
 
   -- with zero above its counts.
   pub read-zeroed : judgedFile f ≡ Good → zeroed (readOf f .held) ≡ readOf f .held

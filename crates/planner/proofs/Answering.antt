@@ -19,9 +19,9 @@ use Rattle.cases.specs.declared.Position.{Position}
 use Rattle.cases.specs.declared.Filled.{Filled}
 use Rattle.cases.specs.Case.{mostSteps, people, steps}
 use Rattle.cases.specs.Chain.{planOf, adviceAt, awayAt}
-use Rattle.cases.specs.Positions.{persons, zeroPerson}
+use Rattle.cases.specs.Positions.{persons, zeroPerson, startPosition}
 use Rattle.cases.specs.Filled.{whoIn}
-use Rattle.cases.proofs.Positions.{persons-length, upto-at, upto-many}
+use Rattle.cases.proofs.Positions.{persons-length, persons-start, upto-at, upto-many}
 use Rattle.cases.proofs.Answers.{plan-first-got}
 use Rattle.boards.specs.Board.{stepSets, readyPlace, readyOn}
 use Rattle.boards.specs.Arena.{Done, boardArena}
@@ -38,6 +38,7 @@ use Rattle.refusals.specs.declared.Judged.the-variants.{Good, Refused}
 use Rattle.refusals.specs.Refusals.{judgedBy, orElse}
 use Rattle.refusals.specs.CaseChecks.{judgedCase}
 use Rattle.refusals.proofs.Order.{good-checks, judged-append}
+use Rattle.refusals.proofs.Cases.{good-limited}
 use Rattle.walks.specs.Trying.{stepOn, OneReady}
 use Rattle.walks.specs.Outcomes.{named, adviceOn}
 use Rattle.asking.specs.Asking.{numberCheck, positionCheck, absenceCheck, judgedQuestion, judgedAway, judgedAdvice}
@@ -58,6 +59,14 @@ use Rattle.planner.specs.declared.AwayAnswer.the-variants as away-says
 use Rattle.planner.specs.Answers.{personOf, positionOf, noPlan, planAnswer, planGiven, verdictAnswer, verdictGiven, adviceAnswer, adviceGiven, awayAnswer, awayGiven}
 use Rattle.planner.specs.Calls.{planCall, walkOf, questionCall, adviceCall, awayCall}
 use Rattle.planner.specs.OnBoard.{planOn, walkOn, planAnswerOn, adviceReady, awayReady}
+
+-- ---- the steps of a good case, and a position at the start
+
+pub few-steps : (c : Case) → judgedCase c ≡ Good → steps c ≤ mostSteps
+few-steps c e = good-limited c e .steps
+
+pub at-start : {p : Position} → p ≡ startPosition → persons p ≡ []
+at-start e = ap persons e ∙ persons-start
 
 -- ---- the board of a case that is ready
 

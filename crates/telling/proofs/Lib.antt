@@ -6,6 +6,8 @@ pub mod Sayings
 pub mod Decimal
 pub mod Answered
 pub mod Longer
+-- A case is judged once and laid out once.
+pub mod Laid
 -- Every text fits, and is held.
 pub mod Fits
 pub mod Writing

@@ -6,17 +6,18 @@ use asking::judge_number;
 use cases::Case;
 use files::FileRead;
 use files::read;
-use planner::decremental_verdict;
-use planner::dynamic_verdict;
-use planner::one_shot_verdict;
-use planner::plan;
-use planner::static_verdict;
+use laying::Order;
+use laying::lay_out;
+use planner::Question;
+use planner::ask_laid;
+use planner::plan_laid;
 use refusals::Judged;
 use words::long_at;
 use words::word_at;
 ghost use mathlib.Core.Path.{_≡_};
 ghost use mathlib.Core.List.{[]};
 ghost use Rattle.files.specs.Reading.{readOf};
+ghost use Rattle.asking.specs.Asking.{judgedQuestion};
 ghost use Rattle.telling.specs.Telling.{fileIn, answerLines, textOf};
 ghost use Rattle.telling.specs.Held.{held, put};
 pub use lines::put_asked;
@@ -51,14 +52,23 @@ fn read_file(input: &[u8]) -> FileRead
     }
 }
 
-// The lines for a case: its counts, what is asked, and a line for each answer in the order of the questions.
+// The lines for a case that is judged with t: its counts, what is asked, and a line for each answer in the order of the questions. The case is laid out
+// once for all of them.
 fn answer_lines(case: Case, t: u32, limit: u32) -> Text
+    requires { ⌜ judgedQuestion case t ≡ Judged.Good ⌝ }
     ensures { λ r. ⌜ r ≡ put (held []) (answerLines case t limit) ⌝ }
 {
     let head = put_asked(put_case(Text::empty(), case.counts), t, limit);
-    let planned = put_plan(head, plan(case, limit));
-    let fixed = put_verdict(planned, b"static", static_verdict(case, t, limit));
-    let growing = put_verdict(fixed, b"decremental", decremental_verdict(case, t, limit));
-    let struck = put_verdict(growing, b"one-shot", one_shot_verdict(case, t, limit));
-    put_verdict(struck, b"dynamic", dynamic_verdict(case, t, limit))
+    let board = lay_out(case, Order::Listed);
+    let people = case.counts.people as u8;
+    let steps = case.counts.steps as u8;
+    let plan = plan_laid(&board, people, steps, limit);
+    let fixed = ask_laid(Question::Static, &board, people, t, steps, limit);
+    let growing = ask_laid(Question::Decremental, &board, people, t, steps, limit);
+    let struck = ask_laid(Question::OneShot, &board, people, t, steps, limit);
+    let changing = ask_laid(Question::Dynamic, &board, people, t, steps, limit);
+    let first = put_verdict(put_plan(head, plan), b"static", fixed);
+    let second = put_verdict(first, b"decremental", growing);
+    let third = put_verdict(second, b"one-shot", struck);
+    put_verdict(third, b"dynamic", changing)
 }

@@ -1,4 +1,4 @@
--- What is written of a good case is a good file, and what is read of a good file is a good case.
+-- What is written of a good case is a good file.
 use Prim.Native.Nat.{ℕ}
 use mathlib.Core.Path.{_≡_, sym, _∙_, ap}
 use mathlib.Core.Bool.{false}
@@ -12,13 +12,10 @@ use Rattle.refusals.specs.declared.Judged.the-variants.{Good}
 use Rattle.refusals.specs.Refusals.{judgedBy}
 use Rattle.refusals.specs.CaseChecks.{tooMany, judgedCase}
 use Rattle.refusals.proofs.Cases.{limited, good-fits, same-refusal}
-use Rattle.layout.specs.Layout.{caseOf, fileOf}
+use Rattle.layout.specs.Layout.{fileOf}
 use Rattle.layout.proofs.Lengths.{file-long}
-use Rattle.files.specs.declared.FileRead.{FileRead}
 use Rattle.files.specs.Checks.{misplaced, headChecks, judgedFile}
-use Rattle.files.specs.Reading.{readOf}
-use Rattle.files.proofs.Headers.{RightHeader, Placed, right-header, good-header}
-use Rattle.files.proofs.Nothing.{read-good}
+use Rattle.files.proofs.Headers.{RightHeader, Placed, right-header}
 use Rattle.trips.proofs.Back.{head-back, counts-back, case-back}
 
 -- a right header meets none of 1 to 6
@@ -73,10 +70,3 @@ module _ (c : Case) (fits : tooMany (c .counts) ≡ false) where
 -- A file written from a good case is good.
 pub file-good : (c : Case) → judgedCase c ≡ Good → judgedFile (fileOf c) ≡ Good
 file-good c e = file-judged c (good-fits c e) ∙ e
-
--- A case read from a good file is good.
-pub held-good : (f : List ℕ) → judgedFile f ≡ Good → judgedCase (caseOf f) ≡ Good
-held-good f e = sym (right-header f (good-header f e)) ∙ e
-
-pub read-case-good : (f : List ℕ) → judgedFile f ≡ Good → judgedCase (readOf f .held) ≡ Good
-read-case-good f e = ap (λ (r : FileRead). judgedCase (r .held)) (read-good f e) ∙ held-good f e

@@ -25,7 +25,8 @@ use Rattle.writing.proofs.Judged.{good-write, good-leaves}
 use Rattle.trips.specs.Trips.{frontOf, WrittenThenRead, ReadThenWritten}
 use Rattle.trips.proofs.Back.{case-back}
 use Rattle.trips.proofs.Again.{file-again}
-use Rattle.trips.proofs.Good.{file-good, held-good}
+use Rattle.files.proofs.Nothing.{held-good}
+use Rattle.trips.proofs.Good.{file-good}
 
 -- what a good write into a buffer that is long enough answers and leaves
 written-good : (buffer : List ℕ) (c : Case) → judgedCase c ≡ Good → totalOf (c .counts) ≤ length buffer

@@ -1,5 +1,9 @@
-use Rattle.telling.proofs.Writing.{lines-put}
+use native.Mathlib.Omega.{arith}
 use borrow.Author.Needs.{needs}
+use Rattle.planner.specs.declared.Question.the-variants as question
+use Rattle.planner.proofs.Answering.{one-ready}
+use Rattle.telling.proofs.Writing.{lines-put}
+use Rattle.telling.proofs.Laid.{case-ready, planned-as, asked-as}
 use Rattle.telling.proofs.answer_lines.Statement.{statement}
 use Rattle.telling.proofs.answer_lines.Tie as tie
 
@@ -12,8 +16,29 @@ put-case-requires c κs = search needs
 put-asked-requires : tie.Need-put-asked-requires
 put-asked-requires c κs = search needs
 
-plan-requires : tie.Need-plan-requires
-plan-requires c κs = search needs
+lay-out-requires : tie.Need-lay-out-requires
+lay-out-requires c κs = case-ready _ _ (c .before .before .before .pre) .counts
+
+cast-people : tie.Need-cast-people
+cast-people c = omega (arith, case-ready _ _ (c .before .before .before .before .before .pre) .counts .people)
+
+cast-steps : tie.Need-cast-steps
+cast-steps c = omega (arith, case-ready _ _ (c .before .before .before .before .before .before .pre) .counts .steps)
+
+plan-laid-requires : tie.Need-plan-laid-requires
+plan-laid-requires c κs = (case-ready _ _ (c .before .before .before .before .before .before .before .pre) .counts .people, one-ready _ (case-ready _ _ (c .before .before .before .before .before .before .before .pre)) _ (c .before .before .before .lay-out .ensures))
+
+ask-laid-requires : tie.Need-ask-laid-requires
+ask-laid-requires c κs = (case-ready _ _ (c .before .before .before .before .before .before .before .before .before .pre) .counts .people, one-ready _ (case-ready _ _ (c .before .before .before .before .before .before .before .before .before .pre)) _ (c .before .before .before .before .before .lay-out .ensures))
+
+ask-laid-requires-2 : tie.Need-ask-laid-requires-2
+ask-laid-requires-2 c κs = (case-ready _ _ (c .before .before .before .before .before .before .before .before .before .before .before .pre) .counts .people, one-ready _ (case-ready _ _ (c .before .before .before .before .before .before .before .before .before .before .before .pre)) _ (c .before .before .before .before .before .before .before .lay-out .ensures))
+
+ask-laid-requires-3 : tie.Need-ask-laid-requires-3
+ask-laid-requires-3 c κs = (case-ready _ _ (c .before .before .before .before .before .before .before .before .before .before .before .before .before .pre) .counts .people, one-ready _ (case-ready _ _ (c .before .before .before .before .before .before .before .before .before .before .before .before .before .pre)) _ (c .before .before .before .before .before .before .before .before .before .lay-out .ensures))
+
+ask-laid-requires-4 : tie.Need-ask-laid-requires-4
+ask-laid-requires-4 c κs = (case-ready _ _ (c .before .before .before .before .before .before .before .before .before .before .before .before .before .before .before .pre) .counts .people, one-ready _ (case-ready _ _ (c .before .before .before .before .before .before .before .before .before .before .before .before .before .before .before .pre)) _ (c .before .before .before .before .before .before .before .before .before .before .before .lay-out .ensures))
 
 put-plan-requires : tie.Need-put-plan-requires
 put-plan-requires c κs = search needs
@@ -21,17 +46,11 @@ put-plan-requires c κs = search needs
 slice-aggregate-put-verdict : tie.Need-slice-aggregate-put-verdict
 slice-aggregate-put-verdict c = search needs
 
-static-verdict-requires : tie.Need-static-verdict-requires
-static-verdict-requires c κs = search needs
-
 put-verdict-requires : tie.Need-put-verdict-requires
 put-verdict-requires c κs = search needs
 
 slice-aggregate-put-verdict-2 : tie.Need-slice-aggregate-put-verdict-2
 slice-aggregate-put-verdict-2 c = search needs
-
-decremental-verdict-requires : tie.Need-decremental-verdict-requires
-decremental-verdict-requires c κs = search needs
 
 put-verdict-requires-2 : tie.Need-put-verdict-requires-2
 put-verdict-requires-2 c κs = search needs
@@ -39,37 +58,25 @@ put-verdict-requires-2 c κs = search needs
 slice-aggregate-put-verdict-3 : tie.Need-slice-aggregate-put-verdict-3
 slice-aggregate-put-verdict-3 c = search needs
 
-one-shot-verdict-requires : tie.Need-one-shot-verdict-requires
-one-shot-verdict-requires c κs = search needs
-
 put-verdict-requires-3 : tie.Need-put-verdict-requires-3
 put-verdict-requires-3 c κs = search needs
 
 slice-aggregate-put-verdict-4 : tie.Need-slice-aggregate-put-verdict-4
 slice-aggregate-put-verdict-4 c = search needs
 
-dynamic-verdict-requires : tie.Need-dynamic-verdict-requires
-dynamic-verdict-requires c κs = search needs
-
 put-verdict-requires-4 : tie.Need-put-verdict-requires-4
 put-verdict-requires-4 c κs = search needs
 
 returns : tie.Need-returns
 returns c =
-    lines-put _ _ _ _ _ _ _ _ _ _ _ _ _ _ _ _
-    (c .before .before .before .before .before .before .before .before .before .before .before .before .before .before .before .before .empty .ensures)
-    (c .before .before .before .before .before .before .before .before .before .before .before .before .before .before .before .put-case .ensures)
-    (c .before .before .before .before .before .before .before .before .before .before .before .before .before .before .put-asked .ensures)
-    (c .before .before .before .before .before .before .before .before .before .before .before .before .before .plan .ensures)
-    (c .before .before .before .before .before .before .before .before .before .before .before .before .put-plan .ensures)
-    (c .before .before .before .before .before .before .before .before .before .before .static-verdict .ensures)
-    (c .before .before .before .before .before .before .before .before .before .put-verdict .ensures)
-    (c .before .before .before .before .before .before .before .decremental-verdict .ensures)
-    (c .before .before .before .before .before .before .put-verdict2 .ensures)
-    (c .before .before .before .before .one-shot-verdict .ensures)
-    (c .before .before .before .put-verdict3 .ensures)
-    (c .before .dynamic-verdict .ensures)
-    (c .put-verdict4 .ensures)
+    let at = c .before .before .before .before .before .before .before .before .before .before .before .before .before .before .before .before .before .before .before .before .before .before .before .before .before in
+    let laid = c .before .before .before .before .before .before .before .before .before .before .before .before .before .before .before .before .before .before .before .before .before .lay-out in
+    lines-put _ _ _ _ _ _ _ _ _ _ _ _ _ _ _ _ (c .before .before .before .before .before .before .before .before .before .before .before .before .before .before .before .before .before .before .before .before .before .before .before .before .empty .ensures) (c .before .before .before .before .before .before .before .before .before .before .before .before .before .before .before .before .before .before .before .before .before .before .before .put-case .ensures) (c .before .before .before .before .before .before .before .before .before .before .before .before .before .before .before .before .before .before .before .before .before .before .put-asked .ensures)
+    (planned-as (at .args .case) (at .args .t) _ (at .pre) (laid .ensures) (c .before .before .before .before .before .before .before .before .before .before .before .before .before .before .before .before .before .plan-laid .ensures)) (c .before .before .before .before .before .before .before .before .put-plan .ensures)
+    (asked-as question.Static (at .args .case) (at .args .t) _ (at .pre) (laid .ensures) (c .before .before .before .before .before .before .before .before .before .before .before .before .before .before .before .ask-laid .ensures)) (c .before .before .before .before .before .before .put-verdict .ensures)
+    (asked-as question.Decremental (at .args .case) (at .args .t) _ (at .pre) (laid .ensures) (c .before .before .before .before .before .before .before .before .before .before .before .before .before .ask-laid2 .ensures)) (c .before .before .before .before .put-verdict2 .ensures)
+    (asked-as question.OneShot (at .args .case) (at .args .t) _ (at .pre) (laid .ensures) (c .before .before .before .before .before .before .before .before .before .before .before .ask-laid3 .ensures)) (c .before .before .put-verdict3 .ensures)
+    (asked-as question.Dynamic (at .args .case) (at .args .t) _ (at .pre) (laid .ensures) (c .before .before .before .before .before .before .before .before .before .ask-laid4 .ensures)) (c .put-verdict4 .ensures)
 
 pub answer-lines-spec : {M : Type 1} → statement M
 answer-lines-spec =
@@ -78,18 +85,21 @@ answer-lines-spec =
     empty-requires
     put-case-requires
     put-asked-requires
-    plan-requires
+    lay-out-requires
+    cast-people
+    cast-steps
+    plan-laid-requires
+    ask-laid-requires
+    ask-laid-requires-2
+    ask-laid-requires-3
+    ask-laid-requires-4
     put-plan-requires
     slice-aggregate-put-verdict
-    static-verdict-requires
     put-verdict-requires
     slice-aggregate-put-verdict-2
-    decremental-verdict-requires
     put-verdict-requires-2
     slice-aggregate-put-verdict-3
-    one-shot-verdict-requires
     put-verdict-requires-3
     slice-aggregate-put-verdict-4
-    dynamic-verdict-requires
     put-verdict-requires-4
     returns)

@@ -1,6 +1,7 @@
 use mathlib.Core.Path.{_∙_}
 use native.Mathlib.Omega.{arith}
 use Rattle.words.specs.Word.{AllBytes}
+use Rattle.telling.proofs.Laid.{input-good}
 use Rattle.telling.proofs.Writing.{input-judged, told-refused, told-good}
 use borrow.Author.Needs.{needs}
 use Rattle.telling.proofs.tell.Statement.{statement}
@@ -37,7 +38,7 @@ enum-told : tie.Need-enum-told
 enum-told c = search needs
 
 answer-lines-requires : tie.Need-answer-lines-requires
-answer-lines-requires c κs = search needs
+answer-lines-requires c κs = input-good (c .before .before .before .before .before .before .before .before .args .input .now) _ _ _ _ (c .before .before .before .before .read-file .ensures) (c .before .before .before .judge-number .ensures) (c .before .before .or-else .ensures) (c .enum-told .given .1)
 
 returns : tie.Need-returns
 returns c =
