@@ -7,3 +7,4 @@ pub mod Sweeps
 pub mod Tries
 pub mod Turns
 pub mod Showing
+pub mod Settled

@@ -1,3 +1,4 @@
--- What the searches' contracts cite: what their answers say, and the next person worth a try.
+-- What the searches' contracts cite: what their answers say, the next person worth a try, and what is asked of a board.
 pub mod Outcomes
 pub mod Trying
+pub mod WellLaid

@@ -27,7 +27,8 @@ ghost use Rattle.games.specs.Walks.{plan, static, decremental, dynamic, ifNone}
 ghost use Rattle.games.specs.Limit.{cut};
 ghost use Rattle.boards.specs.Arena.{boardArena};
 ghost use Rattle.walks.specs.Outcomes.{planOutcome, verdictOutcome, advisedOutcome, turnOutcome, beatsOn, adviceOn};
-ghost use Rattle.walks.specs.Trying.{tryOutcome, tried, stepOn, OneReady, InLine};
+ghost use Rattle.walks.specs.Trying.{tryOutcome, tried, stepOn, InLine};
+ghost use Rattle.walks.specs.WellLaid.{WellLaid};
 
 // How a search for a plan ended.
 pub enum PlanEnd {
@@ -156,7 +157,7 @@ pub fn plan_walk(
     left: u8,
     limit: u32,
 ) -> Planned
-    requires { ⌜ (people ≤ 32) × OneReady (now board) ⌝ }
+    requires { ⌜ (people ≤ 32) × WellLaid (now board) ⌝ }
     ensures { λ r. ⌜ planOutcome limit r ≡ cut limit (plan (boardArena (now (board .entry)) people) (number absent) left p) ⌝ }
 {
     if left == 0 {
@@ -225,7 +226,7 @@ pub fn dynamic_walk(
     left: u8,
     limit: u32,
 ) -> Verdict
-    requires { ⌜ (people ≤ 32) × OneReady (now board) ⌝ }
+    requires { ⌜ (people ≤ 32) × WellLaid (now board) ⌝ }
     ensures { λ r. ⌜ verdictOutcome limit r ≡ cut limit (dynamic (boardArena (now (board .entry)) people) t left p) ⌝ }
 {
     if left == 0 {
@@ -286,7 +287,7 @@ pub fn advice_walk(
     left: u8,
     limit: u32,
 ) -> Advised
-    requires { ⌜ (people ≤ 32) × OneReady (now board) ⌝ }
+    requires { ⌜ (people ≤ 32) × WellLaid (now board) ⌝ }
     ensures { λ r. ⌜ advisedOutcome limit r ≡ cut limit (adviceOn (now (board .entry)) people t left (number absent) p) ⌝ }
 {
     if left == 0 {
@@ -341,7 +342,7 @@ fn desk_turn(
     left: u8,
     limit: u32,
 ) -> Turn
-    requires { ⌜ (0 < left) × (people ≤ 32) × OneReady (now board) × (number away < 2 ^ people) × (size people (number away) ≤ t) × (step .0 ≡ stepOn (now board) p) × InLine (now board) people 0 p (number (whole .tried)) (number (whole .fit)) ⌝ }
+    requires { ⌜ (0 < left) × (people ≤ 32) × WellLaid (now board) × (number away < 2 ^ people) × (size people (number away) ≤ t) × (step .0 ≡ stepOn (now board) p) × InLine (now board) people 0 p (number (whole .tried)) (number (whole .fit)) ⌝ }
     ensures { λ r. ⌜ turnOutcome limit (number away) r ≡ cut limit (beatsOn (now (board .entry)) people t (left - 1) p (number away)) ⌝ }
 {
     let mut line = without(whole, away);
@@ -391,7 +392,7 @@ pub fn away_turn(
     left: u8,
     limit: u32,
 ) -> Verdict
-    requires { ⌜ (people ≤ 32) × OneReady (now board) × (number away < 2 ^ people) × (size people (number away) ≤ t) ⌝ }
+    requires { ⌜ (people ≤ 32) × WellLaid (now board) × (number away < 2 ^ people) × (size people (number away) ≤ t) ⌝ }
     ensures { λ r. ⌜ verdictOutcome limit r ≡ cut limit (decremental (boardArena (now (board .entry)) people) t left (number away) p) ⌝ }
 {
     if left == 0 {
@@ -436,7 +437,7 @@ fn without_plan(
     left: u8,
     limit: u32,
 ) -> Turn
-    requires { ⌜ (people ≤ 32) × OneReady (now board) ⌝ }
+    requires { ⌜ (people ≤ 32) × WellLaid (now board) ⌝ }
     ensures { λ r. ⌜ turnOutcome limit (number away) r ≡ cut limit (ifNone (number away) (plan (boardArena (now (board .entry)) people) (number away) left p)) ⌝ }
 {
     let walked = plan_walk(board, people, away, p, left, limit);
@@ -457,7 +458,7 @@ fn all_gone(
     left: u8,
     limit: u32,
 ) -> Verdict
-    requires { ⌜ (people ≤ 32) × OneReady (now board) ⌝ }
+    requires { ⌜ (people ≤ 32) × WellLaid (now board) ⌝ }
     ensures { λ r. ⌜ verdictOutcome limit r ≡ cut limit (ifNone (number away) (plan (boardArena (now (board .entry)) people) (number away) left p)) ⌝ }
 {
     match without_plan(board, people, away, p, left, limit) {
@@ -476,7 +477,7 @@ pub fn static_walk(
     left: u8,
     limit: u32,
 ) -> Verdict
-    requires { ⌜ (people ≤ 32) × OneReady (now board) ⌝ }
+    requires { ⌜ (people ≤ 32) × WellLaid (now board) ⌝ }
     ensures { λ r. ⌜ verdictOutcome limit r ≡ cut limit (static (boardArena (now (board .entry)) people) t left p) ⌝ }
 {
     if left == 0 {
