@@ -8,3 +8,4 @@ pub mod Tries
 pub mod Turns
 pub mod Showing
 pub mod Settled
+pub mod Alike

@@ -9,6 +9,7 @@ use boards::PLACES;
 use boards::allowed;
 use boards::fits;
 use boards::ready;
+use boards::settled;
 use cases::Case;
 use cases::Filled;
 use cases::Person;
@@ -28,6 +29,7 @@ ghost use Rattle.games.specs.Limit.{cut};
 ghost use Rattle.boards.specs.Arena.{boardArena};
 ghost use Rattle.walks.specs.Outcomes.{planOutcome, verdictOutcome, advisedOutcome, turnOutcome, beatsOn, adviceOn};
 ghost use Rattle.walks.specs.Trying.{tryOutcome, tried, stepOn, InLine};
+ghost use Rattle.walks.specs.Alike.{allSpent, spentOutcome};
 ghost use Rattle.walks.specs.WellLaid.{WellLaid};
 
 // How a search for a plan ended.
@@ -75,6 +77,12 @@ enum Try {
     Limit,
     Nobody(u32),
     Person(Person, u32),
+}
+
+// The trials used when a whole line is tried, or that they are more than the limit.
+enum Spent {
+    Limit,
+    All(u32),
 }
 
 // The step that is ready, 32 where none is.
@@ -136,6 +144,19 @@ fn behind(line: Line, v: Person) -> Line
         tried: line.tried.after(v.0),
         fit: line.fit.after(v.0),
     }
+}
+
+// The whole line tried, where the judging of each who fits takes `more` trials, and none ends the search.
+fn rest_alike(line: Line, used: u32, more: u32, limit: u32) -> Spent
+    ensures { λ r. ⌜ spentOutcome r ≡ allSpent (number (line .tried)) (number (line .fit)) used more limit ⌝ }
+{
+    let tried = line.tried.size() as u64;
+    let fit = line.fit.size() as u64;
+    let all = (used as u64) + (tried + fit * (more as u64));
+    if (limit as u64) < all {
+        return Spent::Limit;
+    }
+    Spent::All(all as u32)
 }
 
 // The line without some people.
@@ -210,6 +231,22 @@ pub fn plan_walk(
                     PlanEnd::No(more) => {
                         used = trials + more;
                         line = behind(line, v);
+                        if settled(board, p, step) {
+                            match rest_alike(line, used, more, limit) {
+                                Spent::Limit => {
+                                    return Planned {
+                                        end: PlanEnd::Limit,
+                                        plan: p,
+                                    };
+                                }
+                                Spent::All(all) => {
+                                    return Planned {
+                                        end: PlanEnd::No(all),
+                                        plan: p,
+                                    };
+                                }
+                            }
+                        }
                     }
                 }
             }
