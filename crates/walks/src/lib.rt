@@ -411,6 +411,16 @@ fn desk_turn(
                     Verdict::No(_, more) => {
                         used = trials + more;
                         line = behind(line, v);
+                        if settled(board, p, step) {
+                            match rest_alike(line, used, more, limit) {
+                                Spent::Limit => {
+                                    return Turn::Limit;
+                                }
+                                Spent::All(all) => {
+                                    return Turn::Beaten(all);
+                                }
+                            }
+                        }
                     }
                 }
             }

@@ -1,4 +1,5 @@
 // The one-shot game. Until the away side strikes, its turn and the desk's call each other; from a strike on the desk is alone, as in the static walk.
+use crate::Spent;
 use crate::Try;
 use crate::Turn;
 use crate::Verdict;
@@ -6,8 +7,10 @@ use crate::behind;
 use crate::line_up;
 use crate::next_step;
 use crate::next_try;
+use crate::rest_alike;
 use crate::static_walk;
 use boards::PLACES;
+use boards::settled;
 use cases::Filled;
 use sets::People;
 ghost use mathlib.Core.Path.{_≡_};
@@ -74,6 +77,16 @@ fn pass_turn(board: &[u32; PLACES], people: u8, t: u32, p: Filled, left: u8, lim
                     Verdict::No(_, more) => {
                         used = trials + more;
                         line = behind(line, v);
+                        if settled(board, p, step) {
+                            match rest_alike(line, used, more, limit) {
+                                Spent::Limit => {
+                                    return Turn::Limit;
+                                }
+                                Spent::All(all) => {
+                                    return Turn::Beaten(all);
+                                }
+                            }
+                        }
                     }
                 }
             }
