@@ -50,6 +50,19 @@ fit-many T F i =
     only false true f = f refl
     only false false f = refl
 
+-- ---- a walk that takes the trials of a whole line
+
+module _ {R : Type 0} (limit T F used c : ℕ) (total : Walk R) (r : R) (is : total ≡ record { got = r; trials = allTrials T F used c }) where
+  pub spent-stops : none ≡ allSpent T F used c limit → stopped limit ≡ cut limit total
+  unfolding allSpent
+  spent-stops e = stops limit 0 total _ (is ∙ sym (plus-zero _)) (omega (arith, leb-false (allTrials T F used c) limit (only-none _ _ e)))
+
+  pub spent-ends : (m : ℕ) → some m ≡ allSpent T F used c limit → whole (record { got = r; trials = m }) ≡ cut limit total
+  unfolding allSpent
+  spent-ends m e =
+      let k = only-some _ (allTrials T F used c) m e in
+      ends limit total r m (is ∙ ap (λ (x : ℕ). record { got = r; trials = x }) (sym (k .1))) (omega (arith, k .1, leb-true (allTrials T F used c) limit (k .0)))
+
 -- ---- nobody ends the search: each of the line costs a trial, and each of F a judging
 
 module _ {A R S : Type 0} {h : Hunt A R S} {a : A} {c : ℕ} (alike : Alike h a c) {s : S} (on : (u : ℕ) → h .step u a s ≡ go s) where
@@ -73,22 +86,17 @@ module _ {A R S : Type 0} {h : Hunt A R S} {a : A} {c : ℕ} (alike : Alike h a 
           ap (plus 1) r ∙ ap (λ (k : ℕ). record { got = h .last s; trials = k }) e
 
   module _ {total : Walk R} {limit T F used : ℕ} (g : Going h total limit T F used s) where
-    all-tried : total ≡ record { got = h .last s; trials = allTrials T F used c }
+    pub all-tried : total ≡ record { got = h .last s; trials = allTrials T F used c }
     unfolding plus
     all-tried =
         g .rest ∙ ap (plus used) (scan-alike F (members width T))
         ∙ ap₂ (λ (m k : ℕ). record { got = h .last s; trials = used + (m + k * c) }) (members-length width T) (fit-many T F (g .inside))
 
     pub alike-limit : none ≡ allSpent T F used c limit → stopped limit ≡ cut limit total
-    unfolding allSpent plus
-    alike-limit e =
-        stops limit 0 total _ (all-tried ∙ sym (plus-zero _)) (omega (arith, leb-false (allTrials T F used c) limit (only-none _ _ e)))
+    alike-limit e = spent-stops limit T F used c total (h .last s) all-tried e
 
     pub alike-all : (m : ℕ) → some m ≡ allSpent T F used c limit → whole (record { got = h .last s; trials = m }) ≡ cut limit total
-    unfolding allSpent
-    alike-all m e =
-        let k = only-some _ (allTrials T F used c) m e in
-        ends limit total (h .last s) m (all-tried ∙ ap (λ (x : ℕ). record { got = h .last s; trials = x }) (sym (k .1))) (omega (arith, k .1, leb-true (allTrials T F used c) limit (k .0)))
+    alike-all m e = spent-ends limit T F used c total (h .last s) all-tried m e
 
 -- ---- the sum, as the code makes it
 

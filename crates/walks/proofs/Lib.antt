@@ -9,3 +9,4 @@ pub mod Turns
 pub mod Showing
 pub mod Settled
 pub mod Alike
+pub mod Good

@@ -3,6 +3,7 @@
 //
 // A position's people are lined up once: those who cost a trial, and among them those with whom every rule holds. Each turn of a loop then goes
 // straight to the next person worth a try, and counts those passed over, each a trial, without looking at them.
+mod everyone;
 mod strikes;
 
 use boards::PLACES;
@@ -14,6 +15,9 @@ use cases::Case;
 use cases::Filled;
 use cases::Person;
 use cases::Step;
+use everyone::all_bad;
+use everyone::all_good;
+use everyone::rest_alike;
 use sets::Lowest;
 use sets::Next;
 use sets::People;
@@ -29,7 +33,6 @@ ghost use Rattle.games.specs.Limit.{cut};
 ghost use Rattle.boards.specs.Arena.{boardArena};
 ghost use Rattle.walks.specs.Outcomes.{planOutcome, verdictOutcome, advisedOutcome, turnOutcome, beatsOn, adviceOn};
 ghost use Rattle.walks.specs.Trying.{tryOutcome, tried, stepOn, InLine};
-ghost use Rattle.walks.specs.Alike.{allSpent, spentOutcome};
 ghost use Rattle.walks.specs.WellLaid.{WellLaid};
 
 // How a search for a plan ended.
@@ -146,19 +149,6 @@ fn behind(line: Line, v: Person) -> Line
     }
 }
 
-// The whole line tried, where the judging of each who fits takes `more` trials, and none ends the search.
-fn rest_alike(line: Line, used: u32, more: u32, limit: u32) -> Spent
-    ensures { λ r. ⌜ spentOutcome r ≡ allSpent (number (line .tried)) (number (line .fit)) used more limit ⌝ }
-{
-    let tried = line.tried.size() as u64;
-    let fit = line.fit.size() as u64;
-    let all = (used as u64) + (tried + fit * (more as u64));
-    if (limit as u64) < all {
-        return Spent::Limit;
-    }
-    Spent::All(all as u32)
-}
-
 // The line without some people.
 fn without(line: Line, away: People) -> Line
     ensures { λ r. ⌜ (number (r .tried) ≡ difference width (number (line .tried)) (number away)) × (number (r .fit) ≡ difference width (number (line .fit)) (number away)) ⌝ }
@@ -270,7 +260,12 @@ pub fn dynamic_walk(
         return Verdict::Yes(0);
     }
     let step = next_step(board, p);
-    let mut line = line_up(board, people, People::none(), p, step);
+    let whole = line_up(board, people, People::none(), p, step);
+    if left == 1 {
+        return all_good(whole, t, 0, limit);
+    }
+    let alike = settled(board, p, step);
+    let mut line = whole;
     let mut shown = People::none();
     let mut found: u32 = 0;
     let mut used: u32 = 0;
@@ -296,10 +291,16 @@ pub fn dynamic_walk(
                         return Verdict::Limit;
                     }
                     Verdict::No(_, more) => {
+                        if alike {
+                            return all_bad(whole, more, limit);
+                        }
                         used = trials + more;
                         line = behind(line, v);
                     }
                     Verdict::Yes(more) => {
+                        if alike {
+                            return all_good(whole, t, more, limit);
+                        }
                         if found == t {
                             return Verdict::Yes(trials + more);
                         }

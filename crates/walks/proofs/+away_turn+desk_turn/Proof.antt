@@ -38,7 +38,7 @@ use Rattle.walks.proofs.next_step.Reads as next-step-reads
 use Rattle.walks.proofs.without.Reads as without-reads
 use Rattle.sets.proofs.People.none.Reads as none-reads
 use Rattle.walks.proofs.next_try.Reads as next-try-reads
-use Rattle.walks.proofs.rest_alike.Reads as rest-alike-reads
+use Rattle.walks.proofs.everyone.rest_alike.Reads as rest-alike-reads
 use Rattle.walks.proofs.+away_turn+desk_turn.{statement}
 use Rattle.walks.proofs.+away_turn+desk_turn.Tie.{close}
 

@@ -27,7 +27,7 @@ use Rattle.walks.proofs.behind.Reads as behind-reads
 use Rattle.walks.proofs.line_up.Reads as line-up-reads
 use Rattle.walks.proofs.next_step.Reads as next-step-reads
 use Rattle.walks.proofs.next_try.Reads as next-try-reads
-use Rattle.walks.proofs.rest_alike.Reads as rest-alike-reads
+use Rattle.walks.proofs.everyone.rest_alike.Reads as rest-alike-reads
 use Rattle.walks.proofs.+plan_walk.{statement}
 use Rattle.walks.proofs.+plan_walk.Tie.{close}
 

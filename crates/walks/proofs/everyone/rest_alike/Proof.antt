@@ -1,10 +1,10 @@
 use native.Mathlib.Omega.{arith}
 use Rattle.walks.proofs.Alike.{judgings-small, spent-over, spent-within}
 use borrow.Author.Needs.{needs}
-use Rattle.walks.proofs.rest_alike.Statement.{statement}
-use Rattle.walks.proofs.rest_alike.Tie as tie
-use Rattle.walks.proofs.rest_alike.Reads as reads
-use Rattle.walks.proofs.rest_alike.Lts as lts
+use Rattle.walks.proofs.everyone.rest_alike.Statement.{statement}
+use Rattle.walks.proofs.everyone.rest_alike.Tie as tie
+use Rattle.walks.proofs.everyone.rest_alike.Reads as reads
+use Rattle.walks.proofs.everyone.rest_alike.Lts as lts
 use Rattle.sets.proofs.People.size.Reads as size-reads
 
 size-requires : tie.Need-size-requires
@@ -35,7 +35,7 @@ cast-t8 : tie.Need-cast-t8
 cast-t8 c = search needs
 
 returns-2 : tie.Need-returns-2
-returns-2 c = spent-within _ _ _ _ _ (c .before .before .size .ensures) (c .before .size2 .ensures) (omega (arith, c .if1 .left))
+returns-2 c = spent-within _ _ _ _ _ (c .before .before .size .ensures) (c .before .size2 .ensures) (c .if1 .left)
 
 pub rest-alike-spec : {M : Type 1} → statement M
 rest-alike-spec =
