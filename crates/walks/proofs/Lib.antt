@@ -10,3 +10,6 @@ pub mod Showing
 pub mod Sizes
 pub mod Ways
 pub mod Counted
+pub mod Settled
+pub mod Alike
+pub mod Good

@@ -114,7 +114,7 @@ going-start h total limit T F s i e = record { enough = omega arith; inside = i;
 
 module _ {A R S : Type 0} (h : Hunt A R S) (T F : ℕ) (s : S) where
   -- nobody is worth a try: each of those in line costs a trial
-  nobody-left : lowest width F ≡ none → scan h F (members width T) s ≡ record { got = h .last s; trials = size width T }
+  pub nobody-left : lowest width F ≡ none → scan h F (members width T) s ≡ record { got = h .last s; trials = size width T }
   unfolding scan plus
   nobody-left e =
       ap (λ l. scan h F l s) (sym (append-nil (members width T)))
@@ -122,7 +122,7 @@ module _ {A R S : Type 0} (h : Hunt A R S) (T F : ℕ) (s : S) where
       ∙ (let k : length (members width T) + 0 ≡ size width T = omega (arith, members-length width T) in ap (λ (c : ℕ). record { got = h .last s; trials = c }) k)
 
   -- the next who is worth a try: those before cost a trial each, and so does v
-  came-to : Inside F T → (v : ℕ) → lowest width F ≡ some v
+  pub came-to : Inside F T → (v : ℕ) → lowest width F ≡ some v
       → scan h F (members width T) s ≡ plus (suc (sizeBefore width T v)) (judged h v s (scan h (after width F v) (members width (after width T v))))
   came-to i v e =
       let l = lowest-some width F v e in

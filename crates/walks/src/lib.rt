@@ -3,6 +3,7 @@
 //
 // A position's people are lined up once: those who cost a trial, and among them those with whom every rule holds. Each turn of a loop then goes
 // straight to the next person worth a try, and counts those passed over, each a trial, without looking at them.
+mod everyone;
 mod strikes;
 mod sums;
 
@@ -10,10 +11,14 @@ use boards::PLACES;
 use boards::allowed;
 use boards::fits;
 use boards::ready;
+use boards::settled;
 use cases::Case;
 use cases::Filled;
 use cases::Person;
 use cases::Step;
+use everyone::all_bad;
+use everyone::all_good;
+use everyone::rest_alike;
 use sets::Lowest;
 use sets::Next;
 use sets::People;
@@ -30,8 +35,9 @@ ghost use Rattle.games.specs.Walks.{plan, static, decremental, dynamic, ifNone}
 ghost use Rattle.games.specs.Limit.{cut};
 ghost use Rattle.boards.specs.Arena.{boardArena};
 ghost use Rattle.walks.specs.Outcomes.{planOutcome, verdictOutcome, advisedOutcome, turnOutcome, beatsOn, adviceOn};
-ghost use Rattle.walks.specs.Trying.{tryOutcome, tried, stepOn, OneReady, InLine};
+ghost use Rattle.walks.specs.Trying.{tryOutcome, tried, stepOn, InLine};
 ghost use Rattle.walks.specs.Ways.{Finds, Bounds};
+ghost use Rattle.walks.specs.WellLaid.{WellLaid};
 
 // How a search for a plan ended.
 pub enum PlanEnd {
@@ -90,6 +96,12 @@ enum Way {
 struct Looked {
     turn: Turn,
     top: u8,
+}
+
+// The trials used when a whole line is tried, or that they are more than the limit.
+enum Spent {
+    Limit,
+    All(u32),
 }
 
 // The step that is ready, 32 where none is.
@@ -172,7 +184,7 @@ pub fn plan_walk(
     left: u8,
     limit: u32,
 ) -> Planned
-    requires { ⌜ (people ≤ 32) × OneReady (now board) ⌝ }
+    requires { ⌜ (people ≤ 32) × WellLaid (now board) ⌝ }
     ensures { λ r. ⌜ planOutcome limit r ≡ cut limit (plan (boardArena (now (board .entry)) people) (number absent) left p) ⌝ }
 {
     if left == 0 {
@@ -225,6 +237,22 @@ pub fn plan_walk(
                     PlanEnd::No(more) => {
                         used = trials + more;
                         line = behind(line, v);
+                        if settled(board, p, step) {
+                            match rest_alike(line, used, more, limit) {
+                                Spent::Limit => {
+                                    return Planned {
+                                        end: PlanEnd::Limit,
+                                        plan: p,
+                                    };
+                                }
+                                Spent::All(all) => {
+                                    return Planned {
+                                        end: PlanEnd::No(all),
+                                        plan: p,
+                                    };
+                                }
+                            }
+                        }
                     }
                 }
             }
@@ -241,14 +269,19 @@ pub fn dynamic_walk(
     left: u8,
     limit: u32,
 ) -> Verdict
-    requires { ⌜ (people ≤ 32) × OneReady (now board) ⌝ }
+    requires { ⌜ (people ≤ 32) × WellLaid (now board) ⌝ }
     ensures { λ r. ⌜ verdictOutcome limit r ≡ cut limit (dynamic (boardArena (now (board .entry)) people) t left p) ⌝ }
 {
     if left == 0 {
         return Verdict::Yes(0);
     }
     let step = next_step(board, p);
-    let mut line = line_up(board, people, People::none(), p, step);
+    let whole = line_up(board, people, People::none(), p, step);
+    if left == 1 {
+        return all_good(whole, t, 0, limit);
+    }
+    let alike = settled(board, p, step);
+    let mut line = whole;
     let mut shown = People::none();
     let mut found: u32 = 0;
     let mut used: u32 = 0;
@@ -274,10 +307,16 @@ pub fn dynamic_walk(
                         return Verdict::Limit;
                     }
                     Verdict::No(_, more) => {
+                        if alike {
+                            return all_bad(whole, more, limit);
+                        }
                         used = trials + more;
                         line = behind(line, v);
                     }
                     Verdict::Yes(more) => {
+                        if alike {
+                            return all_good(whole, t, more, limit);
+                        }
                         if found == t {
                             return Verdict::Yes(trials + more);
                         }
@@ -302,7 +341,7 @@ pub fn advice_walk(
     left: u8,
     limit: u32,
 ) -> Advised
-    requires { ⌜ (people ≤ 32) × OneReady (now board) ⌝ }
+    requires { ⌜ (people ≤ 32) × WellLaid (now board) ⌝ }
     ensures { λ r. ⌜ advisedOutcome limit r ≡ cut limit (adviceOn (now (board .entry)) people t left (number absent) p) ⌝ }
 {
     if left == 0 {
@@ -357,7 +396,7 @@ fn desk_turn(
     left: u8,
     limit: u32,
 ) -> Turn
-    requires { ⌜ (0 < left) × (people ≤ 32) × OneReady (now board) × (number away < 2 ^ people) × (size people (number away) ≤ t) × (step .0 ≡ stepOn (now board) p) × InLine (now board) people 0 p (number (whole .tried)) (number (whole .fit)) ⌝ }
+    requires { ⌜ (0 < left) × (people ≤ 32) × WellLaid (now board) × (number away < 2 ^ people) × (size people (number away) ≤ t) × (step .0 ≡ stepOn (now board) p) × InLine (now board) people 0 p (number (whole .tried)) (number (whole .fit)) ⌝ }
     ensures { λ r. ⌜ turnOutcome limit (number away) r ≡ cut limit (beatsOn (now (board .entry)) people t (left - 1) p (number away)) ⌝ }
 {
     let mut line = without(whole, away);
@@ -389,6 +428,16 @@ fn desk_turn(
                     Verdict::No(_, more) => {
                         used = trials + more;
                         line = behind(line, v);
+                        if settled(board, p, step) {
+                            match rest_alike(line, used, more, limit) {
+                                Spent::Limit => {
+                                    return Turn::Limit;
+                                }
+                                Spent::All(all) => {
+                                    return Turn::Beaten(all);
+                                }
+                            }
+                        }
                     }
                 }
             }
@@ -407,7 +456,7 @@ pub fn away_turn(
     left: u8,
     limit: u32,
 ) -> Verdict
-    requires { ⌜ (people ≤ 32) × OneReady (now board) × (number away < 2 ^ people) × (size people (number away) ≤ t) ⌝ }
+    requires { ⌜ (people ≤ 32) × WellLaid (now board) × (number away < 2 ^ people) × (size people (number away) ≤ t) ⌝ }
     ensures { λ r. ⌜ verdictOutcome limit r ≡ cut limit (decremental (boardArena (now (board .entry)) people) t left (number away) p) ⌝ }
 {
     if left == 0 {
@@ -452,7 +501,7 @@ fn straight(
     left: u8,
     limit: u32,
 ) -> Way
-    requires { ⌜ (people ≤ 32) × OneReady (now board) ⌝ }
+    requires { ⌜ (people ≤ 32) × WellLaid (now board) ⌝ }
     ensures { λ r. ⌜ Finds (now (board .entry)) people (number absent) left p limit r ⌝ }
 {
     let mut at = p;
@@ -496,7 +545,7 @@ fn plan_turn(
     left: u8,
     limit: u32,
 ) -> Turn
-    requires { ⌜ (people ≤ 32) × OneReady (now board) ⌝ }
+    requires { ⌜ (people ≤ 32) × WellLaid (now board) ⌝ }
     ensures { λ r. ⌜ turnOutcome limit (number away) r ≡ cut limit (ifNone (number away) (plan (boardArena (now (board .entry)) people) (number away) left p)) ⌝ }
 {
     let walked = plan_walk(board, people, away, p, left, limit);
@@ -517,7 +566,7 @@ fn without_plan(
     left: u8,
     limit: u32,
 ) -> Looked
-    requires { ⌜ (people ≤ 32) × OneReady (now board) ⌝ }
+    requires { ⌜ (people ≤ 32) × WellLaid (now board) ⌝ }
     ensures { λ r. ⌜ (turnOutcome limit (number away) (r .turn) ≡ cut limit (ifNone (number away) (plan (boardArena (now (board .entry)) people) (number away) left p))) × (r .top ≤ width) × Bounds (now (board .entry)) people (number away) left p (r .top) ⌝ }
 {
     match straight(board, people, away, p, left, limit) {
@@ -544,7 +593,7 @@ fn all_gone(
     left: u8,
     limit: u32,
 ) -> Verdict
-    requires { ⌜ (people ≤ 32) × OneReady (now board) ⌝ }
+    requires { ⌜ (people ≤ 32) × WellLaid (now board) ⌝ }
     ensures { λ r. ⌜ verdictOutcome limit r ≡ cut limit (ifNone (number away) (plan (boardArena (now (board .entry)) people) (number away) left p)) ⌝ }
 {
     let looked = without_plan(board, people, away, p, left, limit);
@@ -568,7 +617,7 @@ pub fn static_walk(
     left: u8,
     limit: u32,
 ) -> Verdict
-    requires { ⌜ (people ≤ 32) × OneReady (now board) ⌝ }
+    requires { ⌜ (people ≤ 32) × WellLaid (now board) ⌝ }
     ensures { λ r. ⌜ verdictOutcome limit r ≡ cut limit (static (boardArena (now (board .entry)) people) t left p) ⌝ }
 {
     if left == 0 {

@@ -1,13 +1,16 @@
 // The one-shot game. Until the away side strikes, its turn and the desk's call each other; from a strike on the desk is alone, as in the static walk.
+use crate::Spent;
 use crate::Try;
 use crate::Turn;
 use crate::Verdict;
 use crate::behind;
+use crate::everyone::rest_alike;
 use crate::line_up;
 use crate::next_step;
 use crate::next_try;
 use crate::static_walk;
 use boards::PLACES;
+use boards::settled;
 use cases::Filled;
 use sets::People;
 ghost use mathlib.Core.Path.{_≡_};
@@ -16,7 +19,7 @@ ghost use Rattle.games.specs.Walks.{plus, static, oneShot};
 ghost use Rattle.games.specs.Limit.{cut};
 ghost use Rattle.boards.specs.Arena.{boardArena};
 ghost use Rattle.walks.specs.Outcomes.{verdictOutcome, turnOutcome, passOn};
-ghost use Rattle.walks.specs.Trying.{OneReady};
+ghost use Rattle.walks.specs.WellLaid.{WellLaid};
 
 // A turn of the away side that has not struck: the pass, then the strikes; it stops at the first that beats the desk. A pass is shown as nobody.
 pub fn one_shot_walk(
@@ -27,7 +30,7 @@ pub fn one_shot_walk(
     left: u8,
     limit: u32,
 ) -> Verdict
-    requires { ⌜ (people ≤ 32) × OneReady (now board) ⌝ }
+    requires { ⌜ (people ≤ 32) × WellLaid (now board) ⌝ }
     ensures { λ r. ⌜ verdictOutcome limit r ≡ cut limit (oneShot (boardArena (now (board .entry)) people) t left p) ⌝ }
 {
     if left == 0 {
@@ -42,7 +45,7 @@ pub fn one_shot_walk(
 
 // A turn of the desk after a pass, with everybody present: it stops at the first person who leaves a position from which the away side cannot win.
 fn pass_turn(board: &[u32; PLACES], people: u8, t: u32, p: Filled, left: u8, limit: u32) -> Turn
-    requires { ⌜ (0 < left) × (people ≤ 32) × OneReady (now board) ⌝ }
+    requires { ⌜ (0 < left) × (people ≤ 32) × WellLaid (now board) ⌝ }
     ensures { λ r. ⌜ turnOutcome limit 0 r ≡ cut limit (passOn (now (board .entry)) people t (left - 1) p) ⌝ }
 {
     let step = next_step(board, p);
@@ -74,6 +77,16 @@ fn pass_turn(board: &[u32; PLACES], people: u8, t: u32, p: Filled, left: u8, lim
                     Verdict::No(_, more) => {
                         used = trials + more;
                         line = behind(line, v);
+                        if settled(board, p, step) {
+                            match rest_alike(line, used, more, limit) {
+                                Spent::Limit => {
+                                    return Turn::Limit;
+                                }
+                                Spent::All(all) => {
+                                    return Turn::Beaten(all);
+                                }
+                            }
+                        }
                     }
                 }
             }
@@ -91,7 +104,7 @@ fn then_strikes(
     used: u32,
     limit: u32,
 ) -> Verdict
-    requires { ⌜ (used ≤ limit) × (people ≤ 32) × OneReady (now board) ⌝ }
+    requires { ⌜ (used ≤ limit) × (people ≤ 32) × WellLaid (now board) ⌝ }
     ensures { λ r. ⌜ verdictOutcome limit r ≡ cut limit (plus used (static (boardArena (now (board .entry)) people) t left p)) ⌝ }
 {
     match static_walk(board, people, t, p, left, limit - used) {

@@ -11,11 +11,13 @@ use Rattle.boards.specs.Arena.{boardArena}
 use Rattle.games.specs.Walks.{decremental}
 use Rattle.walks.specs.Outcomes.{verdictOutcome, turnOutcome, beatsOn}
 use Rattle.walks.specs.Trying.{tryOutcome}
+use Rattle.walks.specs.Alike.{spentOutcome}
 use Rattle.walks.proofs.Lines.{line-without}
 use Rattle.walks.proofs.Cuts.{ends}
 use Rattle.walks.proofs.Scans.{Going, try-limit, try-nobody, try-person, sub-limit, sub-within, sub-done, sub-on}
 use Rattle.walks.proofs.Sweeps.{Sweep, sweep-known, sweep-few, sweep-limit, sweep-beats, sweep-beaten, sweep-within, sweep-end, sweep-on, sweep-higher}
 use Rattle.walks.proofs.Turns.{nobody-shown, gone-walk, above-zero, some-left, placed-is, deskHunt, desk-going, decremental-full, away-going, next-some, next-none}
+use Rattle.walks.proofs.Alike.{going-as, alike-limit, alike-all, desk-alike, is-settled}
 use Prim.Native.Nat.{ℕ, _<_}
 use borrow.Fn.Kinds.{In}
 use borrow.Fn.PlainCycle.{Measures, is, falls, and}
@@ -25,6 +27,7 @@ use Rattle.walks.proofs.+away_turn+desk_turn.Lts-away_turn as away-turn
 use Rattle.walks.proofs.desk_turn.Reads as desk-turn
 use Rattle.walks.proofs.desk_turn.Kinds as desk-turn-kinds
 use Rattle.walks.proofs.+away_turn+desk_turn.Lts-desk_turn as desk-turn-lts
+use Rattle.boards.proofs.settled.Reads as settled-reads
 use Rattle.cases.proofs.Filled.placed.Reads as placed-reads
 use Rattle.sets.proofs.People.next.Reads as next-reads
 use Rattle.walks.proofs.behind.Reads as behind-reads
@@ -35,6 +38,7 @@ use Rattle.walks.proofs.next_step.Reads as next-step-reads
 use Rattle.walks.proofs.without.Reads as without-reads
 use Rattle.sets.proofs.People.none.Reads as none-reads
 use Rattle.walks.proofs.next_try.Reads as next-try-reads
+use Rattle.walks.proofs.everyone.rest_alike.Reads as rest-alike-reads
 use Rattle.walks.proofs.+away_turn+desk_turn.{statement}
 use Rattle.walks.proofs.+away_turn+desk_turn.Tie.{close}
 
@@ -71,7 +75,7 @@ away-turn-calls t = (size-reads.Asked, size-reads.Learnt, all-gone-reads.Asked, 
 
 -- what the calls of desk_turn ask and give
 abbrev desk-turn-calls : ℕ → desk-turn-lts.Claims
-desk-turn-calls t = (without-reads.Asked, without-reads.Learnt, next-try-reads.Asked, next-try-reads.Learnt, placed-reads.Asked, placed-reads.Learnt, away-turn-below t, away-turn.Post, behind-reads.Asked, behind-reads.Learnt)
+desk-turn-calls t = (without-reads.Asked, without-reads.Learnt, next-try-reads.Asked, next-try-reads.Learnt, placed-reads.Asked, placed-reads.Learnt, away-turn-below t, away-turn.Post, behind-reads.Asked, behind-reads.Learnt, settled-reads.Asked, settled-reads.Learnt, rest-alike-reads.Asked, rest-alike-reads.Learnt)
 
 away-turn-returns : (t : ℕ) → away-turn-lts.Need-returns (away-turn-calls t) (away-turn-at t) away-turn.Post away-turn-Inv-loop away-turn-μ-loop
 away-turn-returns t c = ends _ _ none 0 (decremental-full _ _ _ (c .if1 .taken) _ _) (omega arith)
@@ -197,8 +201,8 @@ desk-turn-returns-3 t c = sub-limit (try-person (c .before .before .before .befo
 desk-turn-enum-known-more : (t : ℕ) → desk-turn-lts.Need-enum-known-more (desk-turn-calls t) (desk-turn-at t) desk-turn.Post desk-turn-Inv-loop desk-turn-μ-loop
 desk-turn-enum-known-more t c = search needs
 
-desk-turn-add-t22 : (t : ℕ) → desk-turn-lts.Need-add-t22 (desk-turn-calls t) (desk-turn-at t) desk-turn.Post desk-turn-Inv-loop desk-turn-μ-loop
-desk-turn-add-t22 t c = omega (arith, c .before .before .before .before .before .before .before .before .before .before .before .fits .limit .fits, sub-within (try-person (c .before .before .before .before .before .before .before .before .before .loop .inv) _ _ (sym (ap tryOutcome (c .before .before .before .before .before .before .v .given .1)) ∙ c .before .before .before .before .before .before .before .before .next-try .ensures)) _ _ (sym (ap (verdictOutcome _) (c .before .more .given .1)) ∙ (rw (placed-is _ _ _ _ _ (c .before .before .before .before .placed .ensures) (c .before .before .before .before .before .before .before .before .before .before .before .pre .1 .5)) at (c .before .before .before .away-turn .ensures))))
+desk-turn-add-t23 : (t : ℕ) → desk-turn-lts.Need-add-t23 (desk-turn-calls t) (desk-turn-at t) desk-turn.Post desk-turn-Inv-loop desk-turn-μ-loop
+desk-turn-add-t23 t c = omega (arith, c .before .before .before .before .before .before .before .before .before .before .before .fits .limit .fits, sub-within (try-person (c .before .before .before .before .before .before .before .before .before .loop .inv) _ _ (sym (ap tryOutcome (c .before .before .before .before .before .before .v .given .1)) ∙ c .before .before .before .before .before .before .before .before .next-try .ensures)) _ _ (sym (ap (verdictOutcome _) (c .before .more .given .1)) ∙ (rw (placed-is _ _ _ _ _ (c .before .before .before .before .placed .ensures) (c .before .before .before .before .before .before .before .before .before .before .before .pre .1 .5)) at (c .before .before .before .away-turn .ensures))))
 
 desk-turn-returns-4 : (t : ℕ) → desk-turn-lts.Need-returns-4 (desk-turn-calls t) (desk-turn-at t) desk-turn.Post desk-turn-Inv-loop desk-turn-μ-loop
 desk-turn-returns-4 t c = sub-done (try-person (c .before .before .before .before .before .before .before .before .before .loop .inv) _ _ (sym (ap tryOutcome (c .before .before .before .before .before .before .v .given .1)) ∙ c .before .before .before .before .before .before .before .before .next-try .ensures)) _ _ (sym (ap (verdictOutcome _) (c .before .more .given .1)) ∙ (rw (placed-is _ _ _ _ _ (c .before .before .before .before .placed .ensures) (c .before .before .before .before .before .before .before .before .before .before .before .pre .1 .5)) at (c .before .before .before .away-turn .ensures))) _ refl
@@ -212,11 +216,35 @@ desk-turn-add-used t c = omega (arith, c .before .before .before .before .before
 desk-turn-behind-requires : (t : ℕ) → desk-turn-lts.Need-behind-requires (desk-turn-calls t) (desk-turn-at t) desk-turn.Post desk-turn-Inv-loop desk-turn-μ-loop
 desk-turn-behind-requires t c κs = tt
 
+desk-turn-settled-requires : (t : ℕ) → desk-turn-lts.Need-settled-requires (desk-turn-calls t) (desk-turn-at t) desk-turn.Post desk-turn-Inv-loop desk-turn-μ-loop
+desk-turn-settled-requires t c κs = tt
+
+desk-turn-rest-alike-requires : (t : ℕ) → desk-turn-lts.Need-rest-alike-requires (desk-turn-calls t) (desk-turn-at t) desk-turn.Post desk-turn-Inv-loop desk-turn-μ-loop
+desk-turn-rest-alike-requires t c κs = tt
+
+desk-turn-enum-told-3 : (t : ℕ) → desk-turn-lts.Need-enum-told-3 (desk-turn-calls t) (desk-turn-at t) desk-turn.Post desk-turn-Inv-loop desk-turn-μ-loop
+desk-turn-enum-told-3 t c = search needs
+
+desk-turn-returns-5 : (t : ℕ) → desk-turn-lts.Need-returns-5 (desk-turn-calls t) (desk-turn-at t) desk-turn.Post desk-turn-Inv-loop desk-turn-μ-loop
+desk-turn-returns-5 t c =
+    let e = sym (ap (verdictOutcome _) (c .before .before .before .before .before .before .before .more2 .given .1)) ∙ (rw (placed-is _ _ _ _ _ (c .before .before .before .before .before .before .before .before .before .before .placed .ensures) (c .before .before .before .before .before .before .before .before .before .before .before .before .before .before .before .before .before .pre .1 .5)) at (c .before .before .before .before .before .before .before .before .before .away-turn .ensures)) in
+    alike-limit (desk-alike _ _ (c .before .before .before .before .before .before .before .before .before .before .before .before .before .before .before .before .before .pre .1 .2) _ _ _ _ (is-settled _ _ _ (c .before .before .before .before .settled .ensures) (c .before .before .before .before .before .before .before .before .before .before .before .before .before .before .before .before .before .pre .1 .5) (c .before .before .before .if1 .taken)) _ _ _ _ e) (λ u. refl) (going-as (sub-on (try-person (c .before .before .before .before .before .before .before .before .before .before .before .before .before .before .before .loop .inv) _ _ (sym (ap tryOutcome (c .before .before .before .before .before .before .before .before .before .before .before .before .v .given .1)) ∙ c .before .before .before .before .before .before .before .before .before .before .before .before .before .before .next-try .ensures)) _ _ e _ refl) (c .before .before .before .before .before .behind .ensures .0) (c .before .before .before .before .before .behind .ensures .1)) (sym (ap spentOutcome (c .enum-told3 .given .1)) ∙ c .before .before .rest-alike .ensures)
+
+desk-turn-enum-known-all : (t : ℕ) → desk-turn-lts.Need-enum-known-all (desk-turn-calls t) (desk-turn-at t) desk-turn.Post desk-turn-Inv-loop desk-turn-μ-loop
+desk-turn-enum-known-all t c = search needs
+
+desk-turn-returns-6 : (t : ℕ) → desk-turn-lts.Need-returns-6 (desk-turn-calls t) (desk-turn-at t) desk-turn.Post desk-turn-Inv-loop desk-turn-μ-loop
+desk-turn-returns-6 t c =
+    let e = sym (ap (verdictOutcome _) (c .before .before .before .before .before .before .before .before .more2 .given .1)) ∙ (rw (placed-is _ _ _ _ _ (c .before .before .before .before .before .before .before .before .before .before .before .placed .ensures) (c .before .before .before .before .before .before .before .before .before .before .before .before .before .before .before .before .before .before .pre .1 .5)) at (c .before .before .before .before .before .before .before .before .before .before .away-turn .ensures)) in
+    alike-all (desk-alike _ _ (c .before .before .before .before .before .before .before .before .before .before .before .before .before .before .before .before .before .before .pre .1 .2) _ _ _ _ (is-settled _ _ _ (c .before .before .before .before .before .settled .ensures) (c .before .before .before .before .before .before .before .before .before .before .before .before .before .before .before .before .before .before .pre .1 .5) (c .before .before .before .before .if1 .taken)) _ _ _ _ e) (λ u. refl) (going-as (sub-on (try-person (c .before .before .before .before .before .before .before .before .before .before .before .before .before .before .before .before .loop .inv) _ _ (sym (ap tryOutcome (c .before .before .before .before .before .before .before .before .before .before .before .before .before .v .given .1)) ∙ c .before .before .before .before .before .before .before .before .before .before .before .before .before .before .before .next-try .ensures)) _ _ e _ refl) (c .before .before .before .before .before .before .behind .ensures .0) (c .before .before .before .before .before .before .behind .ensures .1)) _ (sym (ap spentOutcome (c .before .all .given .1)) ∙ c .before .before .before .rest-alike .ensures)
+
 desk-turn-loop-less : (t : ℕ) → desk-turn-lts.Need-loop-less (desk-turn-calls t) (desk-turn-at t) desk-turn.Post desk-turn-Inv-loop desk-turn-μ-loop
-desk-turn-loop-less t c = rw (c .behind .ensures .1) ((try-person (c .before .before .before .before .before .before .before .before .before .before .loop .inv) _ _ (sym (ap tryOutcome (c .before .before .before .before .before .before .before .v .given .1)) ∙ c .before .before .before .before .before .before .before .before .before .next-try .ensures)) .fewer)
+desk-turn-loop-less t c = rw (c .before .before .behind .ensures .1) ((try-person (c .before .before .before .before .before .before .before .before .before .before .before .before .loop .inv) _ _ (sym (ap tryOutcome (c .before .before .before .before .before .before .before .before .before .v .given .1)) ∙ c .before .before .before .before .before .before .before .before .before .before .before .next-try .ensures)) .fewer)
 
 desk-turn-loop-again : (t : ℕ) → desk-turn-lts.Need-loop-again (desk-turn-calls t) (desk-turn-at t) desk-turn.Post desk-turn-Inv-loop desk-turn-μ-loop
-desk-turn-loop-again t c = rw (c .behind .ensures .0, c .behind .ensures .1) (sub-on (try-person (c .before .before .before .before .before .before .before .before .before .before .loop .inv) _ _ (sym (ap tryOutcome (c .before .before .before .before .before .before .before .v .given .1)) ∙ c .before .before .before .before .before .before .before .before .before .next-try .ensures)) _ _ (sym (ap (verdictOutcome _) (c .before .before .more2 .given .1)) ∙ (rw (placed-is _ _ _ _ _ (c .before .before .before .before .before .placed .ensures) (c .before .before .before .before .before .before .before .before .before .before .before .before .pre .1 .5)) at (c .before .before .before .before .away-turn .ensures))) _ refl)
+desk-turn-loop-again t c =
+    let e = sym (ap (verdictOutcome _) (c .before .before .before .before .more2 .given .1)) ∙ (rw (placed-is _ _ _ _ _ (c .before .before .before .before .before .before .before .placed .ensures) (c .before .before .before .before .before .before .before .before .before .before .before .before .before .before .pre .1 .5)) at (c .before .before .before .before .before .before .away-turn .ensures)) in
+    going-as (sub-on (try-person (c .before .before .before .before .before .before .before .before .before .before .before .before .loop .inv) _ _ (sym (ap tryOutcome (c .before .before .before .before .before .before .before .before .before .v .given .1)) ∙ c .before .before .before .before .before .before .before .before .before .before .before .next-try .ensures)) _ _ e _ refl) (c .before .before .behind .ensures .0) (c .before .before .behind .ensures .1)
 
 pub +away-turn+desk-turn-spec : {M : Type 1} → statement M
 +away-turn+desk-turn-spec = close μ-away-turn μ-desk-turn (λ t. away-turn-lts.spec (away-turn-calls t)
@@ -247,18 +275,7 @@ pub +away-turn+desk-turn-spec : {M : Type 1} → statement M
     (away-turn-loop-again t)
     (away-turn-enum-told-2 t)
     (away-turn-returns-5 t))
-    λ t. desk-turn-lts.spec (
-      without-reads.Asked,
-      without-reads.Learnt,
-      next-try-reads.Asked,
-      next-try-reads.Learnt,
-      placed-reads.Asked,
-      placed-reads.Learnt,
-      away-turn-below t,
-      away-turn.Post,
-      behind-reads.Asked,
-      behind-reads.Learnt,
-    )
+    λ t. desk-turn-lts.spec (desk-turn-calls t)
     (desk-turn-at t)
     desk-turn.Post
     desk-turn-Inv-loop
@@ -278,10 +295,16 @@ pub +away-turn+desk-turn-spec : {M : Type 1} → statement M
     (desk-turn-enum-told-2 t)
     (desk-turn-returns-3 t)
     (desk-turn-enum-known-more t)
-    (desk-turn-add-t22 t)
+    (desk-turn-add-t23 t)
     (desk-turn-returns-4 t)
     (desk-turn-enum-known-more-2 t)
     (desk-turn-add-used t)
     (desk-turn-behind-requires t)
+    (desk-turn-settled-requires t)
+    (desk-turn-rest-alike-requires t)
+    (desk-turn-enum-told-3 t)
+    (desk-turn-returns-5 t)
+    (desk-turn-enum-known-all t)
+    (desk-turn-returns-6 t)
     (desk-turn-loop-less t)
     (desk-turn-loop-again t)

@@ -10,20 +10,24 @@ use Rattle.games.specs.Walks.{plan}
 use Rattle.boards.specs.Arena.{boardArena}
 use Rattle.walks.specs.Outcomes.{planEnded}
 use Rattle.walks.specs.Trying.{tryOutcome}
+use Rattle.walks.specs.Alike.{spentOutcome}
 use Rattle.walks.proofs.Cuts.{ends}
 use Rattle.walks.proofs.Scans.{Going, try-limit, try-nobody, try-person, sub-limit, sub-within, sub-done, sub-on}
 use Rattle.walks.proofs.Turns.{placed-is, planHunt, plan-full, plan-going}
+use Rattle.walks.proofs.Alike.{going-as, alike-limit, alike-all, plan-alike, is-settled}
 use Prim.Native.Nat.{ℕ, _<_}
 use borrow.Fn.Kinds.{In}
 use borrow.Fn.PlainCycle.{Measures, is, falls, and}
 use Rattle.walks.proofs.plan_walk.Reads as plan-walk
 use Rattle.walks.proofs.plan_walk.Kinds as plan-walk-kinds
 use Rattle.walks.proofs.+plan_walk.Lts-plan_walk as plan-walk-lts
+use Rattle.boards.proofs.settled.Reads as settled-reads
 use Rattle.cases.proofs.Filled.placed.Reads as placed-reads
 use Rattle.walks.proofs.behind.Reads as behind-reads
 use Rattle.walks.proofs.line_up.Reads as line-up-reads
 use Rattle.walks.proofs.next_step.Reads as next-step-reads
 use Rattle.walks.proofs.next_try.Reads as next-try-reads
+use Rattle.walks.proofs.everyone.rest_alike.Reads as rest-alike-reads
 use Rattle.walks.proofs.+plan_walk.{statement}
 use Rattle.walks.proofs.+plan_walk.Tie.{close}
 
@@ -47,7 +51,7 @@ plan-walk-μ-loop board people absent p left limit step line₀ used₀ line use
 
 -- what the calls of plan_walk ask and give
 abbrev plan-walk-calls : ℕ → plan-walk-lts.Claims
-plan-walk-calls t = (next-step-reads.Asked, next-step-reads.Learnt, line-up-reads.Asked, line-up-reads.Learnt, next-try-reads.Asked, next-try-reads.Learnt, placed-reads.Asked, placed-reads.Learnt, plan-walk-below t, plan-walk.Post, behind-reads.Asked, behind-reads.Learnt)
+plan-walk-calls t = (next-step-reads.Asked, next-step-reads.Learnt, line-up-reads.Asked, line-up-reads.Learnt, next-try-reads.Asked, next-try-reads.Learnt, placed-reads.Asked, placed-reads.Learnt, plan-walk-below t, plan-walk.Post, behind-reads.Asked, behind-reads.Learnt, settled-reads.Asked, settled-reads.Learnt, rest-alike-reads.Asked, rest-alike-reads.Learnt)
 
 plan-walk-returns : (t : ℕ) → plan-walk-lts.Need-returns (plan-walk-calls t) (plan-walk-at t) plan-walk.Post plan-walk-Inv-loop plan-walk-μ-loop
 plan-walk-returns t c = ends _ _ (some _) 0 (plan-full _ _ _ (c .if1 .taken) _) (omega arith)
@@ -100,8 +104,8 @@ plan-walk-returns-4 t c = sub-limit (try-person (c .before .before .before .befo
 plan-walk-enum-known-end : (t : ℕ) → plan-walk-lts.Need-enum-known-end (plan-walk-calls t) (plan-walk-at t) plan-walk.Post plan-walk-Inv-loop plan-walk-μ-loop
 plan-walk-enum-known-end t c = search needs
 
-plan-walk-add-t27 : (t : ℕ) → plan-walk-lts.Need-add-t27 (plan-walk-calls t) (plan-walk-at t) plan-walk.Post plan-walk-Inv-loop plan-walk-μ-loop
-plan-walk-add-t27 t c = omega (arith, c .before .before .before .before .before .before .before .before .before .before .before .before .before .before .fits .limit .fits, sub-within (try-person (c .before .before .before .before .before .before .before .before .before .before .loop .inv) _ _ (sym (ap tryOutcome (c .before .before .before .before .before .before .before .v .given .1)) ∙ c .before .before .before .before .before .before .before .before .before .next-try .ensures)) _ _ (sym (ap (planEnded _ _) (c .before .before .end .given .1)) ∙ (rw (placed-is _ _ _ _ _ (c .before .before .before .before .before .placed .ensures) (c .before .before .before .before .before .before .before .before .before .before .before .before .next-step .ensures)) at (c .before .before .before .before .plan-walk .ensures))))
+plan-walk-add-t28 : (t : ℕ) → plan-walk-lts.Need-add-t28 (plan-walk-calls t) (plan-walk-at t) plan-walk.Post plan-walk-Inv-loop plan-walk-μ-loop
+plan-walk-add-t28 t c = omega (arith, c .before .before .before .before .before .before .before .before .before .before .before .before .before .before .fits .limit .fits, sub-within (try-person (c .before .before .before .before .before .before .before .before .before .before .loop .inv) _ _ (sym (ap tryOutcome (c .before .before .before .before .before .before .before .v .given .1)) ∙ c .before .before .before .before .before .before .before .before .before .next-try .ensures)) _ _ (sym (ap (planEnded _ _) (c .before .before .end .given .1)) ∙ (rw (placed-is _ _ _ _ _ (c .before .before .before .before .before .placed .ensures) (c .before .before .before .before .before .before .before .before .before .before .before .before .next-step .ensures)) at (c .before .before .before .before .plan-walk .ensures))))
 
 plan-walk-returns-5 : (t : ℕ) → plan-walk-lts.Need-returns-5 (plan-walk-calls t) (plan-walk-at t) plan-walk.Post plan-walk-Inv-loop plan-walk-μ-loop
 plan-walk-returns-5 t c = sub-done (try-person (c .before .before .before .before .before .before .before .before .before .before .loop .inv) _ _ (sym (ap tryOutcome (c .before .before .before .before .before .before .before .v .given .1)) ∙ c .before .before .before .before .before .before .before .before .before .next-try .ensures)) _ _ (sym (ap (planEnded _ _) (c .before .before .end .given .1)) ∙ (rw (placed-is _ _ _ _ _ (c .before .before .before .before .before .placed .ensures) (c .before .before .before .before .before .before .before .before .before .before .before .before .next-step .ensures)) at (c .before .before .before .before .plan-walk .ensures))) _ refl
@@ -115,11 +119,35 @@ plan-walk-add-used t c = omega (arith, c .before .before .before .before .before
 plan-walk-behind-requires : (t : ℕ) → plan-walk-lts.Need-behind-requires (plan-walk-calls t) (plan-walk-at t) plan-walk.Post plan-walk-Inv-loop plan-walk-μ-loop
 plan-walk-behind-requires t c κs = tt
 
+plan-walk-settled-requires : (t : ℕ) → plan-walk-lts.Need-settled-requires (plan-walk-calls t) (plan-walk-at t) plan-walk.Post plan-walk-Inv-loop plan-walk-μ-loop
+plan-walk-settled-requires t c κs = tt
+
+plan-walk-rest-alike-requires : (t : ℕ) → plan-walk-lts.Need-rest-alike-requires (plan-walk-calls t) (plan-walk-at t) plan-walk.Post plan-walk-Inv-loop plan-walk-μ-loop
+plan-walk-rest-alike-requires t c κs = tt
+
+plan-walk-enum-told-3 : (t : ℕ) → plan-walk-lts.Need-enum-told-3 (plan-walk-calls t) (plan-walk-at t) plan-walk.Post plan-walk-Inv-loop plan-walk-μ-loop
+plan-walk-enum-told-3 t c = search needs
+
+plan-walk-returns-6 : (t : ℕ) → plan-walk-lts.Need-returns-6 (plan-walk-calls t) (plan-walk-at t) plan-walk.Post plan-walk-Inv-loop plan-walk-μ-loop
+plan-walk-returns-6 t c =
+    let e = (sym (ap (planEnded _ _) (c .before .before .before .before .before .before .before .end2 .given .1)) ∙ (rw (placed-is _ _ _ _ _ (c .before .before .before .before .before .before .before .before .before .before .placed .ensures) (c .before .before .before .before .before .before .before .before .before .before .before .before .before .before .before .before .before .next-step .ensures)) at (c .before .before .before .before .before .before .before .before .before .plan-walk .ensures))) in
+    alike-limit (plan-alike _ _ (c .before .before .before .before .before .before .before .before .before .before .before .before .before .before .before .before .before .before .before .pre .1 .1) _ _ _ _ (is-settled _ _ _ (c .before .before .before .before .settled .ensures) (c .before .before .before .before .before .before .before .before .before .before .before .before .before .before .before .before .before .next-step .ensures) (c .before .before .before .if2 .taken)) _ _ e) (λ u. refl) (going-as (sub-on (try-person (c .before .before .before .before .before .before .before .before .before .before .before .before .before .before .before .loop .inv) _ _ (sym (ap tryOutcome (c .before .before .before .before .before .before .before .before .before .before .before .before .v .given .1)) ∙ c .before .before .before .before .before .before .before .before .before .before .before .before .before .before .next-try .ensures)) _ _ e _ refl) (c .before .before .before .before .before .behind .ensures .0) (c .before .before .before .before .before .behind .ensures .1)) (sym (ap spentOutcome (c .enum-told3 .given .1)) ∙ c .before .before .rest-alike .ensures)
+
+plan-walk-enum-known-all : (t : ℕ) → plan-walk-lts.Need-enum-known-all (plan-walk-calls t) (plan-walk-at t) plan-walk.Post plan-walk-Inv-loop plan-walk-μ-loop
+plan-walk-enum-known-all t c = search needs
+
+plan-walk-returns-7 : (t : ℕ) → plan-walk-lts.Need-returns-7 (plan-walk-calls t) (plan-walk-at t) plan-walk.Post plan-walk-Inv-loop plan-walk-μ-loop
+plan-walk-returns-7 t c =
+    let e = (sym (ap (planEnded _ _) (c .before .before .before .before .before .before .before .before .end2 .given .1)) ∙ (rw (placed-is _ _ _ _ _ (c .before .before .before .before .before .before .before .before .before .before .before .placed .ensures) (c .before .before .before .before .before .before .before .before .before .before .before .before .before .before .before .before .before .before .next-step .ensures)) at (c .before .before .before .before .before .before .before .before .before .before .plan-walk .ensures))) in
+    alike-all (plan-alike _ _ (c .before .before .before .before .before .before .before .before .before .before .before .before .before .before .before .before .before .before .before .before .pre .1 .1) _ _ _ _ (is-settled _ _ _ (c .before .before .before .before .before .settled .ensures) (c .before .before .before .before .before .before .before .before .before .before .before .before .before .before .before .before .before .before .next-step .ensures) (c .before .before .before .before .if2 .taken)) _ _ e) (λ u. refl) (going-as (sub-on (try-person (c .before .before .before .before .before .before .before .before .before .before .before .before .before .before .before .before .loop .inv) _ _ (sym (ap tryOutcome (c .before .before .before .before .before .before .before .before .before .before .before .before .before .v .given .1)) ∙ c .before .before .before .before .before .before .before .before .before .before .before .before .before .before .before .next-try .ensures)) _ _ e _ refl) (c .before .before .before .before .before .before .behind .ensures .0) (c .before .before .before .before .before .before .behind .ensures .1)) _ (sym (ap spentOutcome (c .before .all .given .1)) ∙ c .before .before .before .rest-alike .ensures)
+
 plan-walk-loop-less : (t : ℕ) → plan-walk-lts.Need-loop-less (plan-walk-calls t) (plan-walk-at t) plan-walk.Post plan-walk-Inv-loop plan-walk-μ-loop
-plan-walk-loop-less t c = rw (c .behind .ensures .1) ((try-person (c .before .before .before .before .before .before .before .before .before .before .loop .inv) _ _ (sym (ap tryOutcome (c .before .before .before .before .before .before .before .v .given .1)) ∙ c .before .before .before .before .before .before .before .before .before .next-try .ensures)) .fewer)
+plan-walk-loop-less t c = rw (c .before .before .behind .ensures .1) ((try-person (c .before .before .before .before .before .before .before .before .before .before .before .before .loop .inv) _ _ (sym (ap tryOutcome (c .before .before .before .before .before .before .before .before .before .v .given .1)) ∙ c .before .before .before .before .before .before .before .before .before .before .before .next-try .ensures)) .fewer)
 
 plan-walk-loop-again : (t : ℕ) → plan-walk-lts.Need-loop-again (plan-walk-calls t) (plan-walk-at t) plan-walk.Post plan-walk-Inv-loop plan-walk-μ-loop
-plan-walk-loop-again t c = rw (c .behind .ensures .0, c .behind .ensures .1) (sub-on (try-person (c .before .before .before .before .before .before .before .before .before .before .loop .inv) _ _ (sym (ap tryOutcome (c .before .before .before .before .before .before .before .v .given .1)) ∙ c .before .before .before .before .before .before .before .before .before .next-try .ensures)) _ _ (sym (ap (planEnded _ _) (c .before .before .end2 .given .1)) ∙ (rw (placed-is _ _ _ _ _ (c .before .before .before .before .before .placed .ensures) (c .before .before .before .before .before .before .before .before .before .before .before .before .next-step .ensures)) at (c .before .before .before .before .plan-walk .ensures))) _ refl)
+plan-walk-loop-again t c =
+    let e = (sym (ap (planEnded _ _) (c .before .before .before .before .end2 .given .1)) ∙ (rw (placed-is _ _ _ _ _ (c .before .before .before .before .before .before .before .placed .ensures) (c .before .before .before .before .before .before .before .before .before .before .before .before .before .before .next-step .ensures)) at (c .before .before .before .before .before .before .plan-walk .ensures))) in
+    going-as (sub-on (try-person (c .before .before .before .before .before .before .before .before .before .before .before .before .loop .inv) _ _ (sym (ap tryOutcome (c .before .before .before .before .before .before .before .before .before .v .given .1)) ∙ c .before .before .before .before .before .before .before .before .before .before .before .next-try .ensures)) _ _ e _ refl) (c .before .before .behind .ensures .0) (c .before .before .behind .ensures .1)
 
 pub +plan-walk-spec : {M : Type 1} → statement M
 +plan-walk-spec = close μ-plan-walk λ t. plan-walk-lts.spec (plan-walk-calls t)
@@ -144,10 +172,16 @@ pub +plan-walk-spec : {M : Type 1} → statement M
     (plan-walk-enum-told-2 t)
     (plan-walk-returns-4 t)
     (plan-walk-enum-known-end t)
-    (plan-walk-add-t27 t)
+    (plan-walk-add-t28 t)
     (plan-walk-returns-5 t)
     (plan-walk-enum-known-end-2 t)
     (plan-walk-add-used t)
     (plan-walk-behind-requires t)
+    (plan-walk-settled-requires t)
+    (plan-walk-rest-alike-requires t)
+    (plan-walk-enum-told-3 t)
+    (plan-walk-returns-6 t)
+    (plan-walk-enum-known-all t)
+    (plan-walk-returns-7 t)
     (plan-walk-loop-less t)
     (plan-walk-loop-again t)

@@ -54,7 +54,7 @@ sub-more : tie.Need-sub-more Inv-loop μ-loop
 sub-more c = omega arith
 
 add-higher : tie.Need-add-higher Inv-loop μ-loop
-add-higher c = omega (arith, way-person (c .before .before .before .before .before .before .before .before .before .loop .inv) (c .before .before .before .before .before .before .before .before .loop-test .taken) (c .before .before .before .before .before .before .before .before .before .before .pre .0) (c .before .before .before .before .before .before .before .before .before .before .pre .1) _ _ (c .before .before .before .before .before .before .line-up .ensures) _ _ (sym (ap tryOutcome (c .before .before .before .v .given .1)) ∙ c .before .before .before .before .before .next-try .ensures))
+add-higher c = omega (arith, way-person (c .before .before .before .before .before .before .before .before .before .loop .inv) (c .before .before .before .before .before .before .before .before .loop-test .taken) (c .before .before .before .before .before .before .before .before .before .before .pre .0) (c .before .before .before .before .before .before .before .before .before .before .pre .1 .alone) _ _ (c .before .before .before .before .before .before .line-up .ensures) _ _ (sym (ap tryOutcome (c .before .before .before .v .given .1)) ∙ c .before .before .before .before .before .next-try .ensures))
 
 higher-requires : tie.Need-higher-requires Inv-loop μ-loop
 higher-requires c κs = tt
@@ -63,7 +63,7 @@ loop-less : tie.Need-loop-less Inv-loop μ-loop
 loop-less c = omega arith
 
 loop-again : tie.Need-loop-again Inv-loop μ-loop
-loop-again c = way-step (c .before .before .before .before .before .before .before .before .before .before .loop .inv) (c .before .before .before .before .before .before .before .before .before .loop-test .taken) (c .before .before .before .before .before .before .before .before .before .before .before .pre .0) (c .before .before .before .before .before .before .before .before .before .before .before .pre .1) _ _ (c .before .before .before .before .before .before .before .line-up .ensures) _ _ (sym (ap tryOutcome (c .before .before .before .before .v .given .1)) ∙ c .before .before .before .before .before .before .next-try .ensures) _ _ (placed-is _ _ _ _ _ (c .before .before .placed .ensures) (c .before .before .before .before .before .before .before .before .next-step .ensures)) (c .higher .ensures)
+loop-again c = way-step (c .before .before .before .before .before .before .before .before .before .before .loop .inv) (c .before .before .before .before .before .before .before .before .before .loop-test .taken) (c .before .before .before .before .before .before .before .before .before .before .before .pre .0) (c .before .before .before .before .before .before .before .before .before .before .before .pre .1 .alone) _ _ (c .before .before .before .before .before .before .before .line-up .ensures) _ _ (sym (ap tryOutcome (c .before .before .before .before .v .given .1)) ∙ c .before .before .before .before .before .before .next-try .ensures) _ _ (placed-is _ _ _ _ _ (c .before .before .placed .ensures) (c .before .before .before .before .before .before .before .before .next-step .ensures)) (c .higher .ensures)
 
 returns-3 : tie.Need-returns-3 Inv-loop μ-loop
 returns-3 c = way-end (c .before .loop .inv) (c .loop-test .left)

@@ -9,9 +9,11 @@ use Rattle.sets.specs.Stored.{width, number}
 use Rattle.games.specs.Limit.{cut}
 use Rattle.walks.specs.Outcomes.{verdictOutcome, turnOutcome, passOn}
 use Rattle.walks.specs.Trying.{tryOutcome}
+use Rattle.walks.specs.Alike.{spentOutcome}
 use Rattle.walks.proofs.Cuts.{finished, ends, first-limit, first-got, first-none}
 use Rattle.walks.proofs.Scans.{Going, try-limit, try-nobody, try-person, sub-limit, sub-within, sub-done, sub-on}
 use Rattle.walks.proofs.Turns.{above-zero, some-left, placed-is, nobody-shown, passHunt, pass-going, oneShot-full, oneShot-turn}
+use Rattle.walks.proofs.Alike.{going-as, alike-limit, alike-all, pass-alike, is-settled}
 use Prim.Native.Nat.{ℕ, _<_}
 use borrow.Fn.Kinds.{In}
 use borrow.Fn.PlainCycle.{Measures, is, falls, and}
@@ -21,12 +23,14 @@ use Rattle.walks.proofs.strikes.+one_shot_walk+pass_turn.Lts-one_shot_w
 use Rattle.walks.proofs.strikes.pass_turn.Reads as pass-turn
 use Rattle.walks.proofs.strikes.pass_turn.Kinds as pass-turn-kinds
 use Rattle.walks.proofs.strikes.+one_shot_walk+pass_turn.Lts-pass_turn as pass-turn-lts
+use Rattle.boards.proofs.settled.Reads as settled-reads
 use Rattle.cases.proofs.Filled.placed.Reads as placed-reads
 use Rattle.sets.proofs.People.none.Reads as none-reads
 use Rattle.walks.proofs.behind.Reads as behind-reads
 use Rattle.walks.proofs.line_up.Reads as line-up-reads
 use Rattle.walks.proofs.next_step.Reads as next-step-reads
 use Rattle.walks.proofs.next_try.Reads as next-try-reads
+use Rattle.walks.proofs.everyone.rest_alike.Reads as rest-alike-reads
 use Rattle.walks.proofs.strikes.then_strikes.Reads as then-strikes-reads
 use Rattle.walks.proofs.strikes.+one_shot_walk+pass_turn.{statement}
 use Rattle.walks.proofs.strikes.+one_shot_walk+pass_turn.Tie.{close}
@@ -62,7 +66,7 @@ one-shot-walk-calls t = (pass-turn-below t, pass-turn.Post, none-reads.Asked, no
 
 -- what the calls of pass_turn ask and give
 abbrev pass-turn-calls : ℕ → pass-turn-lts.Claims
-pass-turn-calls t = (next-step-reads.Asked, next-step-reads.Learnt, none-reads.Asked, none-reads.Learnt, line-up-reads.Asked, line-up-reads.Learnt, next-try-reads.Asked, next-try-reads.Learnt, placed-reads.Asked, placed-reads.Learnt, one-shot-walk-below t, one-shot-walk.Post, behind-reads.Asked, behind-reads.Learnt)
+pass-turn-calls t = (next-step-reads.Asked, next-step-reads.Learnt, none-reads.Asked, none-reads.Learnt, line-up-reads.Asked, line-up-reads.Learnt, next-try-reads.Asked, next-try-reads.Learnt, placed-reads.Asked, placed-reads.Learnt, one-shot-walk-below t, one-shot-walk.Post, behind-reads.Asked, behind-reads.Learnt, settled-reads.Asked, settled-reads.Learnt, rest-alike-reads.Asked, rest-alike-reads.Learnt)
 
 one-shot-walk-returns : (t : ℕ) → one-shot-walk-lts.Need-returns (one-shot-walk-calls t) (one-shot-walk-at t) one-shot-walk.Post
 one-shot-walk-returns t c = ends _ _ none 0 (oneShot-full _ _ _ (c .if1 .taken) _) (omega arith)
@@ -152,8 +156,8 @@ pass-turn-returns-3 t c = sub-limit (try-person (c .before .before .before .befo
 pass-turn-enum-known-more : (t : ℕ) → pass-turn-lts.Need-enum-known-more (pass-turn-calls t) (pass-turn-at t) pass-turn.Post pass-turn-Inv-loop pass-turn-μ-loop
 pass-turn-enum-known-more t c = search needs
 
-pass-turn-add-t21 : (t : ℕ) → pass-turn-lts.Need-add-t21 (pass-turn-calls t) (pass-turn-at t) pass-turn.Post pass-turn-Inv-loop pass-turn-μ-loop
-pass-turn-add-t21 t c = omega (arith, c .before .before .before .before .before .before .before .before .before .before .before .before .before .fits .limit .fits, sub-within (try-person (c .before .before .before .before .before .before .before .before .before .loop .inv) _ _ (sym (ap tryOutcome (c .before .before .before .before .before .before .v .given .1)) ∙ c .before .before .before .before .before .before .before .before .next-try .ensures)) _ _ (sym (ap (verdictOutcome _) (c .before .more .given .1)) ∙ (rw (placed-is _ _ _ _ _ (c .before .before .before .before .placed .ensures) (c .before .before .before .before .before .before .before .before .before .before .before .before .next-step .ensures)) at (c .before .before .before .one-shot-walk .ensures))))
+pass-turn-add-t22 : (t : ℕ) → pass-turn-lts.Need-add-t22 (pass-turn-calls t) (pass-turn-at t) pass-turn.Post pass-turn-Inv-loop pass-turn-μ-loop
+pass-turn-add-t22 t c = omega (arith, c .before .before .before .before .before .before .before .before .before .before .before .before .before .fits .limit .fits, sub-within (try-person (c .before .before .before .before .before .before .before .before .before .loop .inv) _ _ (sym (ap tryOutcome (c .before .before .before .before .before .before .v .given .1)) ∙ c .before .before .before .before .before .before .before .before .next-try .ensures)) _ _ (sym (ap (verdictOutcome _) (c .before .more .given .1)) ∙ (rw (placed-is _ _ _ _ _ (c .before .before .before .before .placed .ensures) (c .before .before .before .before .before .before .before .before .before .before .before .before .next-step .ensures)) at (c .before .before .before .one-shot-walk .ensures))))
 
 pass-turn-returns-4 : (t : ℕ) → pass-turn-lts.Need-returns-4 (pass-turn-calls t) (pass-turn-at t) pass-turn.Post pass-turn-Inv-loop pass-turn-μ-loop
 pass-turn-returns-4 t c = sub-done (try-person (c .before .before .before .before .before .before .before .before .before .loop .inv) _ _ (sym (ap tryOutcome (c .before .before .before .before .before .before .v .given .1)) ∙ c .before .before .before .before .before .before .before .before .next-try .ensures)) _ _ (sym (ap (verdictOutcome _) (c .before .more .given .1)) ∙ (rw (placed-is _ _ _ _ _ (c .before .before .before .before .placed .ensures) (c .before .before .before .before .before .before .before .before .before .before .before .before .next-step .ensures)) at (c .before .before .before .one-shot-walk .ensures))) _ refl
@@ -167,11 +171,35 @@ pass-turn-add-used t c = omega (arith, c .before .before .before .before .before
 pass-turn-behind-requires : (t : ℕ) → pass-turn-lts.Need-behind-requires (pass-turn-calls t) (pass-turn-at t) pass-turn.Post pass-turn-Inv-loop pass-turn-μ-loop
 pass-turn-behind-requires t c κs = tt
 
+pass-turn-settled-requires : (t : ℕ) → pass-turn-lts.Need-settled-requires (pass-turn-calls t) (pass-turn-at t) pass-turn.Post pass-turn-Inv-loop pass-turn-μ-loop
+pass-turn-settled-requires t c κs = tt
+
+pass-turn-rest-alike-requires : (t : ℕ) → pass-turn-lts.Need-rest-alike-requires (pass-turn-calls t) (pass-turn-at t) pass-turn.Post pass-turn-Inv-loop pass-turn-μ-loop
+pass-turn-rest-alike-requires t c κs = tt
+
+pass-turn-enum-told-3 : (t : ℕ) → pass-turn-lts.Need-enum-told-3 (pass-turn-calls t) (pass-turn-at t) pass-turn.Post pass-turn-Inv-loop pass-turn-μ-loop
+pass-turn-enum-told-3 t c = search needs
+
+pass-turn-returns-5 : (t : ℕ) → pass-turn-lts.Need-returns-5 (pass-turn-calls t) (pass-turn-at t) pass-turn.Post pass-turn-Inv-loop pass-turn-μ-loop
+pass-turn-returns-5 t c =
+    let e = sym (ap (verdictOutcome _) (c .before .before .before .before .before .before .before .more2 .given .1)) ∙ (rw (placed-is _ _ _ _ _ (c .before .before .before .before .before .before .before .before .before .before .placed .ensures) (c .before .before .before .before .before .before .before .before .before .before .before .before .before .before .before .before .before .before .next-step .ensures)) at (c .before .before .before .before .before .before .before .before .before .one-shot-walk .ensures)) in
+    alike-limit (pass-alike _ _ (c .before .before .before .before .before .before .before .before .before .before .before .before .before .before .before .before .before .before .before .pre .1 .2) _ _ _ _ (is-settled _ _ _ (c .before .before .before .before .settled .ensures) (c .before .before .before .before .before .before .before .before .before .before .before .before .before .before .before .before .before .before .next-step .ensures) (c .before .before .before .if1 .taken)) _ _ _ e) (λ u. refl) (going-as (sub-on (try-person (c .before .before .before .before .before .before .before .before .before .before .before .before .before .before .before .loop .inv) _ _ (sym (ap tryOutcome (c .before .before .before .before .before .before .before .before .before .before .before .before .v .given .1)) ∙ c .before .before .before .before .before .before .before .before .before .before .before .before .before .before .next-try .ensures)) _ _ e _ refl) (c .before .before .before .before .before .behind .ensures .0) (c .before .before .before .before .before .behind .ensures .1)) (sym (ap spentOutcome (c .enum-told3 .given .1)) ∙ c .before .before .rest-alike .ensures)
+
+pass-turn-enum-known-all : (t : ℕ) → pass-turn-lts.Need-enum-known-all (pass-turn-calls t) (pass-turn-at t) pass-turn.Post pass-turn-Inv-loop pass-turn-μ-loop
+pass-turn-enum-known-all t c = search needs
+
+pass-turn-returns-6 : (t : ℕ) → pass-turn-lts.Need-returns-6 (pass-turn-calls t) (pass-turn-at t) pass-turn.Post pass-turn-Inv-loop pass-turn-μ-loop
+pass-turn-returns-6 t c =
+    let e = sym (ap (verdictOutcome _) (c .before .before .before .before .before .before .before .before .more2 .given .1)) ∙ (rw (placed-is _ _ _ _ _ (c .before .before .before .before .before .before .before .before .before .before .before .placed .ensures) (c .before .before .before .before .before .before .before .before .before .before .before .before .before .before .before .before .before .before .before .next-step .ensures)) at (c .before .before .before .before .before .before .before .before .before .before .one-shot-walk .ensures)) in
+    alike-all (pass-alike _ _ (c .before .before .before .before .before .before .before .before .before .before .before .before .before .before .before .before .before .before .before .before .pre .1 .2) _ _ _ _ (is-settled _ _ _ (c .before .before .before .before .before .settled .ensures) (c .before .before .before .before .before .before .before .before .before .before .before .before .before .before .before .before .before .before .before .next-step .ensures) (c .before .before .before .before .if1 .taken)) _ _ _ e) (λ u. refl) (going-as (sub-on (try-person (c .before .before .before .before .before .before .before .before .before .before .before .before .before .before .before .before .loop .inv) _ _ (sym (ap tryOutcome (c .before .before .before .before .before .before .before .before .before .before .before .before .before .v .given .1)) ∙ c .before .before .before .before .before .before .before .before .before .before .before .before .before .before .before .next-try .ensures)) _ _ e _ refl) (c .before .before .before .before .before .before .behind .ensures .0) (c .before .before .before .before .before .before .behind .ensures .1)) _ (sym (ap spentOutcome (c .before .all .given .1)) ∙ c .before .before .before .rest-alike .ensures)
+
 pass-turn-loop-less : (t : ℕ) → pass-turn-lts.Need-loop-less (pass-turn-calls t) (pass-turn-at t) pass-turn.Post pass-turn-Inv-loop pass-turn-μ-loop
-pass-turn-loop-less t c = rw (c .behind .ensures .1) ((try-person (c .before .before .before .before .before .before .before .before .before .before .loop .inv) _ _ (sym (ap tryOutcome (c .before .before .before .before .before .before .before .v .given .1)) ∙ c .before .before .before .before .before .before .before .before .before .next-try .ensures)) .fewer)
+pass-turn-loop-less t c = rw (c .before .before .behind .ensures .1) ((try-person (c .before .before .before .before .before .before .before .before .before .before .before .before .loop .inv) _ _ (sym (ap tryOutcome (c .before .before .before .before .before .before .before .before .before .v .given .1)) ∙ c .before .before .before .before .before .before .before .before .before .before .before .next-try .ensures)) .fewer)
 
 pass-turn-loop-again : (t : ℕ) → pass-turn-lts.Need-loop-again (pass-turn-calls t) (pass-turn-at t) pass-turn.Post pass-turn-Inv-loop pass-turn-μ-loop
-pass-turn-loop-again t c = rw (c .behind .ensures .0, c .behind .ensures .1) (sub-on (try-person (c .before .before .before .before .before .before .before .before .before .before .loop .inv) _ _ (sym (ap tryOutcome (c .before .before .before .before .before .before .before .v .given .1)) ∙ c .before .before .before .before .before .before .before .before .before .next-try .ensures)) _ _ (sym (ap (verdictOutcome _) (c .before .before .more2 .given .1)) ∙ (rw (placed-is _ _ _ _ _ (c .before .before .before .before .before .placed .ensures) (c .before .before .before .before .before .before .before .before .before .before .before .before .before .next-step .ensures)) at (c .before .before .before .before .one-shot-walk .ensures))) _ refl)
+pass-turn-loop-again t c =
+    let e = sym (ap (verdictOutcome _) (c .before .before .before .before .more2 .given .1)) ∙ (rw (placed-is _ _ _ _ _ (c .before .before .before .before .before .before .before .placed .ensures) (c .before .before .before .before .before .before .before .before .before .before .before .before .before .before .before .next-step .ensures)) at (c .before .before .before .before .before .before .one-shot-walk .ensures)) in
+    going-as (sub-on (try-person (c .before .before .before .before .before .before .before .before .before .before .before .before .loop .inv) _ _ (sym (ap tryOutcome (c .before .before .before .before .before .before .before .before .before .v .given .1)) ∙ c .before .before .before .before .before .before .before .before .before .before .before .next-try .ensures)) _ _ e _ refl) (c .before .before .behind .ensures .0) (c .before .before .behind .ensures .1)
 
 pub +one-shot-walk+pass-turn-spec : {M : Type 1} → statement M
 +one-shot-walk+pass-turn-spec = close μ-one-shot-walk μ-pass-turn (λ t. one-shot-walk-lts.spec (one-shot-walk-calls t)
@@ -209,10 +237,16 @@ pub +one-shot-walk+pass-turn-spec : {M : Type 1} → statement M
     (pass-turn-enum-told-2 t)
     (pass-turn-returns-3 t)
     (pass-turn-enum-known-more t)
-    (pass-turn-add-t21 t)
+    (pass-turn-add-t22 t)
     (pass-turn-returns-4 t)
     (pass-turn-enum-known-more-2 t)
     (pass-turn-add-used t)
     (pass-turn-behind-requires t)
+    (pass-turn-settled-requires t)
+    (pass-turn-rest-alike-requires t)
+    (pass-turn-enum-told-3 t)
+    (pass-turn-returns-5 t)
+    (pass-turn-enum-known-all t)
+    (pass-turn-returns-6 t)
     (pass-turn-loop-less t)
     (pass-turn-loop-again t)
