@@ -51,13 +51,13 @@ module _ (r : Rule) (f : r .form < 256) (k : r .relation < 256) (s : r .step .0 
       let e : packed r / 256 ≡ r .relation + (r .step .0 + r .group * 256) * 256 = omega arith in
       ap (λ (n : ℕ). n % 256) e ∙ omega arith
 
-  step-back : unpacked (packed r) .step .0 ≡ r .step .0
+  pub step-back : unpacked (packed r) .step .0 ≡ r .step .0
   unfolding packed
   step-back =
       let e : packed r / 65536 ≡ r .step .0 + r .group * 256 = omega arith in
       ap (λ (n : ℕ). n % 256) e ∙ omega arith
 
-  group-back : unpacked (packed r) .group ≡ r .group % 256
+  pub group-back : unpacked (packed r) .group ≡ r .group % 256
   unfolding packed
   group-back =
       let e : packed r / 16777216 ≡ r .group = omega arith in

@@ -4,13 +4,12 @@ use mathlib.Core.Logic.{inl}
 use mathlib.Core.Bool.{Bool, true, false}
 use mathlib.Core.Option.{Option, none, some}
 use mathlib.Core.List.{List, [], _∷_, map}
-use Prim.Native.Nat.{ℕ, _-_, _%_, _≤_, _<_}
+use Prim.Native.Nat.{ℕ, _-_, _≤_}
 use native.Mathlib.Omega.{arith}
 use lib.Dec.{leb}
 use lib.ListN.{length, getD}
 use lib.Seq.{ext-getD}
-use Rattle.sets.specs.Lists.{_∈_, pick, valueOr, upto}
-use Rattle.sets.specs.Sets.{has, lowest}
+use Rattle.sets.specs.Lists.{_∈_, pick, upto}
 use Rattle.games.specs.Walks.{Search, plan, dynamic, advice, away}
 use Rattle.games.specs.Limit.{Answer, stopped, whole, cut}
 use Rattle.games.proofs.Walks.{told}
@@ -23,13 +22,12 @@ use Rattle.cases.specs.Positions.{persons, zeroPerson, startPosition}
 use Rattle.cases.specs.Filled.{whoIn}
 use Rattle.cases.proofs.Positions.{persons-length, persons-start, upto-at, upto-many}
 use Rattle.cases.proofs.Answers.{plan-first-got}
-use Rattle.boards.specs.Board.{stepSets, readyPlace, readyOn}
 use Rattle.boards.specs.Arena.{Done, boardArena}
 use Rattle.laying.specs.declared.Order.the-variants as order
 use Rattle.laying.specs.Laid.{laidOut}
 use Rattle.laying.specs.Ready.{Ready}
 use Rattle.meaning.specs.Listed.{filledBy}
-use Rattle.meaning.proofs.Placing.{listed-one}
+use Rattle.meaning.proofs.Given.{laid-alone, laid-unfilled, laid-closed, laid-listed}
 use Rattle.meaning.proofs.Listed.{filled-formed, filled-at}
 use Rattle.meaning.proofs.OnBoard.{plan-on-board, static-on-board, decremental-on-board, one-shot-on-board, dynamic-on-board, advice-on-board, away-on-board}
 use Rattle.refusals.specs.declared.Refusal.{Refusal}
@@ -39,7 +37,8 @@ use Rattle.refusals.specs.Refusals.{judgedBy, orElse}
 use Rattle.refusals.specs.CaseChecks.{judgedCase}
 use Rattle.refusals.proofs.Order.{good-checks, judged-append}
 use Rattle.refusals.proofs.Cases.{good-limited}
-use Rattle.walks.specs.Trying.{stepOn, OneReady}
+use Rattle.walks.specs.Trying.{stepOn}
+use Rattle.walks.specs.WellLaid.{WellLaid}
 use Rattle.walks.specs.Outcomes.{named, adviceOn}
 use Rattle.asking.specs.Asking.{numberCheck, positionCheck, absenceCheck, judgedQuestion, judgedAway, judgedAdvice}
 use Rattle.asking.specs.OnBoard.{positionCheckOn}
@@ -73,20 +72,17 @@ at-start e = ap persons e ∙ persons-start
 abbrev pub board : Case → List ℕ
 board c = laidOut c order.Listed
 
--- wherever one comes to, one step at most is ready
-pub one-ready : (c : Case) → Ready c → (b : List ℕ) → b ≡ board c → OneReady b
-one-ready c r b e = subst OneReady (sym e) go
-  where
-    low : Filled → Filled
-    low p = record { who = p .who; steps = p .steps % stepSets }
-
-    same : (p : Filled) → readyOn (board c) (low p) ≡ readyOn (board c) p
-    same p = unfold readyOn in ap (λ (f : ℕ). getD (board c) (readyPlace f) 0 % stepSets) (let k : p .steps % stepSets % stepSets ≡ p .steps % stepSets = omega arith in k)
-
-    go : OneReady (board c)
-    go p s l h =
-        unfold stepOn in
-        listed-one c r (low p) (omega arith) s l (ap (λ (x : ℕ). has x s) (same p) ∙ h) ∙ ap (λ (x : ℕ). valueOr 32 (lowest 32 x)) (same p)
+-- it gives what the searches ask of a board
+pub well-laid : (c : Case) → Ready c → (b : List ℕ) → b ≡ board c → WellLaid b
+unfolding stepOn
+well-laid c r b e =
+    subst WellLaid (sym e)
+    (record {
+      alone = laid-alone c r;
+      unfilled = laid-unfilled c order.Listed r;
+      closed = laid-closed c order.Listed r;
+      listed = laid-listed c order.Listed r;
+    })
 
 -- ---- plan
 

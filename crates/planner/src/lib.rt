@@ -35,7 +35,7 @@ ghost use Rattle.cases.specs.Chain.{planOf};
 ghost use Rattle.planner.specs.Calls.{planCall, walkOf, questionCall, staticCall, decrementalCall, oneShotCall, dynamicCall, adviceCall, awayCall};
 ghost use Rattle.laying.specs.Ready.{Ready};
 ghost use Rattle.planner.specs.OnBoard.{planOn, walkOn, planAnswerOn, adviceReady, awayReady};
-ghost use Rattle.walks.specs.Trying.{OneReady};
+ghost use Rattle.walks.specs.WellLaid.{WellLaid};
 ghost use Rattle.walks.specs.Outcomes.{planOutcome, verdictOutcome, advisedOutcome};
 ghost use Rattle.cases.specs.Positions.{persons};
 ghost use Rattle.planner.specs.Answers.{noPlan, planAnswer, verdictAnswer, adviceAnswer, awayAnswer};
@@ -161,7 +161,7 @@ pub fn plan_ready(case: Case, limit: u32) -> PlanAnswer
 
 // The plan call on a board.
 pub fn plan_laid(board: &[u32; PLACES], people: u8, steps: u8, limit: u32) -> PlanAnswer
-    requires { ⌜ (people ≤ 32) × OneReady (now board) ⌝ }
+    requires { ⌜ (people ≤ 32) × WellLaid (now board) ⌝ }
     ensures { λ r. ⌜ r ≡ planAnswerOn steps (cut limit (planOn (now (board .entry)) people steps)) ⌝ }
 {
     let walked = plan_walk(board, people, People::none(), Filled::start(), steps, limit);
@@ -198,7 +198,7 @@ pub fn ask_laid(
     steps: u8,
     limit: u32,
 ) -> VerdictAnswer
-    requires { ⌜ (people ≤ 32) × OneReady (now board) ⌝ }
+    requires { ⌜ (people ≤ 32) × WellLaid (now board) ⌝ }
     ensures { λ r. ⌜ r ≡ verdictAnswer (cut limit (walkOn question (now (board .entry)) people t steps)) ⌝ }
 {
     let walked = walk(question, board, people, t, steps, limit);
@@ -214,7 +214,7 @@ fn walk(
     steps: u8,
     limit: u32,
 ) -> Verdict
-    requires { ⌜ (people ≤ 32) × OneReady (now board) ⌝ }
+    requires { ⌜ (people ≤ 32) × WellLaid (now board) ⌝ }
     ensures { λ r. ⌜ verdictOutcome limit r ≡ cut limit (walkOn question (now (board .entry)) people t steps) ⌝ }
 {
     let start = Filled::start();

@@ -2,7 +2,7 @@ use mathlib.Core.Path.{refl, _∙_}
 use native.Mathlib.Omega.{arith}
 use borrow.Author.Needs.{needs}
 use Rattle.cases.proofs.Positions.{persons-length}
-use Rattle.planner.proofs.Answering.{one-ready, position-good, first-good, steps-left, advice-judged, advice-refused, advice-answered}
+use Rattle.planner.proofs.Answering.{well-laid, position-good, first-good, steps-left, advice-judged, advice-refused, advice-answered}
 use Rattle.planner.proofs.advise_ready.Statement.{statement}
 use Rattle.planner.proofs.advise_ready.Tie as tie
 
@@ -37,7 +37,7 @@ filled-requires : tie.Need-filled-requires
 filled-requires c κs = search needs
 
 advice-walk-requires : tie.Need-advice-walk-requires
-advice-walk-requires c κs = (c .before .before .before .before .before .before .before .before .before .before .pre .counts .people, one-ready _ (c .before .before .before .before .before .before .before .before .before .before .pre) _ (c .before .before .before .before .before .before .before .before .before .lay-out .ensures))
+advice-walk-requires c κs = (c .before .before .before .before .before .before .before .before .before .before .pre .counts .people, well-laid _ (c .before .before .before .before .before .before .before .before .before .before .pre) _ (c .before .before .before .before .before .before .before .before .before .lay-out .ensures))
 
 advice-said-requires : tie.Need-advice-said-requires
 advice-said-requires c κs = search needs

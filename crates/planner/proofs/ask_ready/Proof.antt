@@ -1,6 +1,6 @@
 use mathlib.Core.Path.{refl}
 use native.Mathlib.Omega.{arith}
-use Rattle.planner.proofs.Answering.{one-ready, question-walked}
+use Rattle.planner.proofs.Answering.{well-laid, question-walked}
 use borrow.Author.Needs.{needs}
 use Rattle.planner.proofs.ask_ready.Statement.{statement}
 use Rattle.planner.proofs.ask_ready.Tie as tie
@@ -15,7 +15,7 @@ cast-steps : tie.Need-cast-steps
 cast-steps c = omega (arith, c .before .before .before .pre .counts .steps)
 
 ask-laid-requires : tie.Need-ask-laid-requires
-ask-laid-requires c κs = (c .before .before .before .before .pre .counts .people, one-ready _ (c .before .before .before .before .pre) _ (c .before .before .before .lay-out .ensures))
+ask-laid-requires c κs = (c .before .before .before .before .pre .counts .people, well-laid _ (c .before .before .before .before .pre) _ (c .before .before .before .lay-out .ensures))
 
 returns : tie.Need-returns
 returns c = question-walked (c .before .before .before .before .before .args .question) (c .before .before .before .before .before .args .case) (c .before .before .before .before .before .args .t) _ _ _ _ _ (c .before .before .before .before .before .pre) (c .before .before .before .before .lay-out .ensures) refl refl (c .ask-laid .ensures)

@@ -2,7 +2,7 @@ use mathlib.Core.Path.{refl, _∙_}
 use native.Mathlib.Omega.{arith}
 use borrow.Author.Needs.{needs}
 use Rattle.cases.proofs.Positions.{persons-length}
-use Rattle.planner.proofs.Answering.{one-ready, position-good, steps-left, away-judged, away-refused, away-answered}
+use Rattle.planner.proofs.Answering.{well-laid, position-good, steps-left, away-judged, away-refused, away-answered}
 use Rattle.planner.proofs.away_ready.Statement.{statement}
 use Rattle.planner.proofs.away_ready.Tie as tie
 
@@ -31,7 +31,7 @@ filled-requires : tie.Need-filled-requires
 filled-requires c κs = search needs
 
 dynamic-walk-requires : tie.Need-dynamic-walk-requires
-dynamic-walk-requires c κs = (c .before .before .before .before .before .before .before .before .pre .counts .people, one-ready _ (c .before .before .before .before .before .before .before .before .pre) _ (c .before .before .before .before .before .before .before .lay-out .ensures))
+dynamic-walk-requires c κs = (c .before .before .before .before .before .before .before .before .pre .counts .people, well-laid _ (c .before .before .before .before .before .before .before .before .pre) _ (c .before .before .before .before .before .before .before .lay-out .ensures))
 
 away-said-requires : tie.Need-away-said-requires
 away-said-requires c κs = search needs

@@ -1,6 +1,6 @@
 use mathlib.Core.Path.{refl}
 use native.Mathlib.Omega.{arith}
-use Rattle.planner.proofs.Answering.{one-ready, plan-walked}
+use Rattle.planner.proofs.Answering.{well-laid, plan-walked}
 use borrow.Author.Needs.{needs}
 use Rattle.planner.proofs.plan_ready.Statement.{statement}
 use Rattle.planner.proofs.plan_ready.Tie as tie
@@ -15,7 +15,7 @@ cast-steps : tie.Need-cast-steps
 cast-steps c = omega (arith, c .before .before .before .pre .counts .steps)
 
 plan-laid-requires : tie.Need-plan-laid-requires
-plan-laid-requires c κs = (c .before .before .before .before .pre .counts .people, one-ready _ (c .before .before .before .before .pre) _ (c .before .before .before .lay-out .ensures))
+plan-laid-requires c κs = (c .before .before .before .before .pre .counts .people, well-laid _ (c .before .before .before .before .pre) _ (c .before .before .before .lay-out .ensures))
 
 returns : tie.Need-returns
 returns c = plan-walked _ _ _ _ _ _ (c .before .before .before .before .before .pre) (c .before .before .before .before .lay-out .ensures) refl refl (c .plan-laid .ensures)
