@@ -7,7 +7,6 @@ use Prim.Native.Nat.{ℕ, suc, _+_, _*_, _≤_, _<_}
 use native.Mathlib.Nat.{suc-mul, mul-le-mul}
 use native.Mathlib.Omega.{arith}
 use borrow.Author.Tests.{leb-true, leb-false, le-leb, lt-leb}
-use lib.Dec.{leb}
 use lib.ListN.{length}
 use Rattle.sets.specs.Lists.{pick, onlyIf, consIf, upto, keep}
 use Rattle.sets.specs.Sets.{has, size, members}
@@ -15,7 +14,7 @@ use Rattle.sets.specs.Stored.{width}
 use Rattle.sets.proofs.Lists.{keep-keep, keep-cong, upto-in}
 use Rattle.sets.proofs.Counting.{count-most}
 use Rattle.sets.proofs.Members.{members-length}
-use Rattle.games.specs.Walks.{Walk, Search, plus, plan, dynamic, decremental, oneShot}
+use Rattle.games.specs.Walks.{Walk, Search, plus, plan}
 use Rattle.games.specs.Limit.{stopped, whole, cut}
 use Rattle.cases.specs.declared.Filled.{Filled}
 use Rattle.boards.specs.Board.{settledOn}
@@ -23,9 +22,9 @@ use Rattle.boards.specs.Arena.{putOn, boardArena}
 use Rattle.walks.specs.Trying.{stepOn}
 use Rattle.walks.specs.WellLaid.{WellLaid}
 use Rattle.walks.specs.Alike.{allTrials, allSpent}
-use Rattle.walks.proofs.Cuts.{Finished, finished, ends, stops, plus-zero, only-some, only-none}
-use Rattle.walks.proofs.Scans.{Step, stop, go, Hunt, turn, judged, scan, Inside, Going}
-use Rattle.walks.proofs.Turns.{planHunt, adviceHunt, dynamicHunt, deskHunt, passHunt}
+use Rattle.walks.proofs.Cuts.{finished, ends, stops, plus-zero, only-some, only-none}
+use Rattle.walks.proofs.Scans.{Step, go, Hunt, turn, judged, scan, Inside, Going}
+use Rattle.walks.proofs.Turns.{planHunt, dynamicHunt, deskHunt, passHunt}
 use Rattle.walks.proofs.Settled.{plan-settled, dynamic-settled, decremental-settled, oneShot-settled}
 
 -- whoever is placed, the judging answers a after c trials

@@ -1,6 +1,6 @@
 -- A line of people whose placing is good, each judged in as many trials: the dynamic walk's answer without a walk for each.
 use mathlib.Core.Path.{_≡_, refl, sym, ap, ap₂, _∙_, subst}
-use mathlib.Core.Logic.{_⊎_, inl, inr}
+use mathlib.Core.Logic.{inl, inr}
 use mathlib.Core.Option.{Option, none, some}
 use mathlib.Core.Bool.{Bool, true, false, _&&_, true≢false}
 use mathlib.Core.List.{List, [], _∷_, _++_}
@@ -9,15 +9,15 @@ use native.Mathlib.Nat.{suc-mul, mul-le-mul}
 use native.Mathlib.Numerals.{add-one}
 use native.Mathlib.Omega.{arith}
 use borrow.Author.Tests.{leb-true, leb-false, le-leb, lt-leb, eq-eqb, ne-eqb, lt-ltb, ltb-true}
-use lib.Dec.{leb, ltb, eqb}
+use lib.Dec.{leb, ltb}
 use lib.ListN.{length, length-append, getD}
 use Rattle.sets.specs.Lists.{_∈_, pick}
 use Rattle.sets.specs.Sets.{has, setFrom, size, sizeBefore, members, lowest, without, after}
 use Rattle.sets.specs.Stored.{width}
 use Rattle.sets.proofs.Lists.{nothing-in, and-true, true-and}
 use Rattle.sets.proofs.Counting.{count-most, setOf-lt, setOf-ext}
-use Rattle.sets.proofs.Members.{members-in, members-length, setFrom-members, lowest-none, lowest-some, lowest-least, Split, members-split}
-use Rattle.games.specs.Walks.{Walk, Search, plus, dynamic}
+use Rattle.sets.proofs.Members.{members-in, members-length, setFrom-members, lowest-none, lowest-some, lowest-least, members-split}
+use Rattle.games.specs.Walks.{Search, plus, dynamic}
 use Rattle.games.specs.Limit.{stopped, whole, cut}
 use Rattle.cases.specs.declared.Filled.{Filled}
 use Rattle.boards.specs.Board.{fitsOn}
@@ -26,7 +26,7 @@ use Rattle.walks.specs.Trying.{stepOn, InLine}
 use Rattle.walks.specs.WellLaid.{WellLaid}
 use Rattle.walks.specs.Alike.{allTrials, allSpent, memberAt, allBad, goodFrom}
 use Rattle.walks.proofs.Cuts.{plus-zero, ends, stops}
-use Rattle.walks.proofs.Scans.{stop, go, Hunt, turn, scan, Inside, Going, has-after, nobody-left, came-to}
+use Rattle.walks.proofs.Scans.{stop, go, Hunt, turn, scan, Inside, has-after, nobody-left, came-to}
 use Rattle.walks.proofs.Lines.{countGood, showing}
 use Rattle.walks.proofs.Turns.{dynamicHunt, dynamic-full, dynamic-going}
 use Rattle.walks.proofs.Alike.{Alike, spent-stops, spent-ends, all-tried}

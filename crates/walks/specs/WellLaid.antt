@@ -1,4 +1,4 @@
--- What the searches ask of a board. Every board that is laid out from a case gives it.
+-- What the searches ask of a board: one step at a time, and rules that are listed at each of their steps, so that who fills a settled step is never asked again.
 use mathlib.Core.Path.{_≡_}
 use mathlib.Core.Bool.{true, false, _||_}
 use mathlib.Core.List.{List}

@@ -1,4 +1,4 @@
-// Where everyone who fits is judged alike, one judging tells the answer for the whole line. Sums are made in 64 bits, where none is past the end.
+// Where everyone who fits is judged alike, one judging tells the answer for the whole line. Sums are made in 64 bits, where they fit.
 use crate::Line;
 use crate::Spent;
 use crate::Verdict;

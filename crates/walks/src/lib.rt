@@ -3,6 +3,10 @@
 //
 // A position's people are lined up once: those who cost a trial, and among them those with whom every rule holds. Each turn of a loop then goes
 // straight to the next person worth a try, and counts those passed over, each a trial, without looking at them.
+//
+// Where every rule that names the step that is ready is complete once it is filled, the step is settled: no later test looks at who fills it, and the
+// walks from all placings there are the same. So one of them is walked, and its answer and its trials tell those of the others (everyone.rt). Advice
+// alone, which looks one step ahead once, goes on person by person.
 mod everyone;
 mod strikes;
 mod sums;
