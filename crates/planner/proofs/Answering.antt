@@ -37,9 +37,9 @@ use Rattle.refusals.specs.Refusals.{judgedBy, orElse}
 use Rattle.refusals.specs.CaseChecks.{judgedCase}
 use Rattle.refusals.proofs.Order.{good-checks, judged-append}
 use Rattle.refusals.proofs.Cases.{good-limited}
-use Rattle.walks.specs.Trying.{stepOn}
-use Rattle.walks.specs.WellLaid.{WellLaid}
-use Rattle.walks.specs.Outcomes.{named, adviceOn}
+use Rattle.tries.specs.Trying.{stepOn}
+use Rattle.tries.specs.WellLaid.{WellLaid}
+use Rattle.tries.specs.Outcomes.{named, adviceOn}
 use Rattle.asking.specs.Asking.{numberCheck, positionCheck, absenceCheck, judgedQuestion, judgedAway, judgedAdvice}
 use Rattle.asking.specs.OnBoard.{positionCheckOn}
 use Rattle.asking.proofs.Accepted.{GoodPosition, position-accepted}

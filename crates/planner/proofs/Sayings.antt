@@ -15,8 +15,8 @@ use Rattle.cases.specs.declared.Position.{Position}
 use Rattle.cases.proofs.Positions.{upto-at, upto-many, persons-length}
 use Rattle.words.specs.Part.{Filled}
 use Rattle.words.proofs.Parts.{fill-end}
-use Rattle.walks.specs.declared.Verdict.the-variants as walked
-use Rattle.walks.specs.Outcomes.{verdictOutcome}
+use Rattle.tries.specs.declared.Verdict.the-variants as walked
+use Rattle.tries.specs.Outcomes.{verdictOutcome}
 use Rattle.planner.specs.declared.PlanSays.the-variants as plan
 use Rattle.planner.specs.declared.PlanAnswer.{PlanAnswer}
 use Rattle.planner.specs.declared.VerdictAnswer.the-variants as verdict

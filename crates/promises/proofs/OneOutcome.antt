@@ -15,11 +15,11 @@ use Rattle.sets.specs.declared.Lowest.the-variants as lowest
 use Rattle.sets.proofs.Records.{stored-number, number-injective}
 use Rattle.games.specs.Limit.{Ended, limit, ended, Answer}
 use Rattle.cases.specs.declared.Person.{Person}
-use Rattle.walks.specs.declared.Verdict.{Verdict}
-use Rattle.walks.specs.declared.Verdict.the-variants as verdict
-use Rattle.walks.specs.declared.Advised.{Advised}
-use Rattle.walks.specs.declared.Advised.the-variants as advised
-use Rattle.walks.specs.Outcomes.{verdictOutcome, advisedOutcome}
+use Rattle.tries.specs.declared.Verdict.{Verdict}
+use Rattle.tries.specs.declared.Verdict.the-variants as verdict
+use Rattle.tries.specs.declared.Advised.{Advised}
+use Rattle.tries.specs.declared.Advised.the-variants as advised
+use Rattle.tries.specs.Outcomes.{verdictOutcome, advisedOutcome}
 use Rattle.files.specs.Parts.{seen}
 use Rattle.sets.proofs.People.none.Reads as people-none-reads
 use Rattle.sets.proofs.People.everybody.Reads as people-everybody-reads
@@ -81,7 +81,7 @@ use Rattle.boards.proofs.fits.Reads as fits-reads
 use Rattle.laying.proofs.lay_out.Reads as lay-out-reads
 use Rattle.walks.proofs.dynamic_walk.Reads as dynamic-walk-reads
 use Rattle.walks.proofs.away_turn.Reads as away-turn-reads
-use Rattle.walks.proofs.static_walk.Reads as static-walk-reads
+use Rattle.plans.proofs.static_walk.Reads as static-walk-reads
 use Rattle.walks.proofs.one_shot_walk.Reads as one-shot-walk-reads
 use Rattle.walks.proofs.advice_walk.Reads as advice-walk-reads
 use Rattle.files.proofs.judge.Reads as judge-reads

@@ -1,25 +1,25 @@
 // The one-shot game. Until the away side strikes, its turn and the desk's call each other; from a strike on the desk is alone, as in the static walk.
-use crate::Spent;
-use crate::Try;
-use crate::Turn;
-use crate::Verdict;
-use crate::behind;
-use crate::everyone::rest_alike;
-use crate::line_up;
-use crate::next_step;
-use crate::next_try;
-use crate::static_walk;
 use boards::PLACES;
 use boards::settled;
 use cases::Filled;
+use plans::static_walk;
 use sets::People;
+use tries::Spent;
+use tries::Try;
+use tries::Turn;
+use tries::Verdict;
+use tries::behind;
+use tries::line_up;
+use tries::next_step;
+use tries::next_try;
+use tries::rest_alike;
 ghost use mathlib.Core.Path.{_≡_};
 ghost use Prim.Native.Nat.{_+_, _-_, _≤_, _<_};
 ghost use Rattle.games.specs.Walks.{plus, static, oneShot};
 ghost use Rattle.games.specs.Limit.{cut};
 ghost use Rattle.boards.specs.Arena.{boardArena};
-ghost use Rattle.walks.specs.Outcomes.{verdictOutcome, turnOutcome, passOn};
-ghost use Rattle.walks.specs.WellLaid.{WellLaid};
+ghost use Rattle.tries.specs.Outcomes.{verdictOutcome, turnOutcome, passOn};
+ghost use Rattle.tries.specs.WellLaid.{WellLaid};
 
 // A turn of the away side that has not struck: the pass, then the strikes; it stops at the first that beats the desk. A pass is shown as nobody.
 pub fn one_shot_walk(

@@ -1,5 +1,5 @@
 use mathlib.Core.Path.{sym, ap, _∙_}
-use Rattle.walks.specs.Outcomes.{advisedOutcome}
+use Rattle.tries.specs.Outcomes.{advisedOutcome}
 use Rattle.planner.specs.Answers.{adviceAnswer}
 use borrow.Author.Needs.{needs}
 use Rattle.planner.proofs.advice_said.Statement.{statement}

@@ -1,5 +1,5 @@
 use mathlib.Core.Path.{sym, ap, _∙_}
-use Rattle.walks.specs.Outcomes.{verdictOutcome}
+use Rattle.tries.specs.Outcomes.{verdictOutcome}
 use Rattle.planner.specs.Answers.{awayAnswer}
 use Rattle.planner.proofs.Sayings.{away-shown}
 use borrow.Author.Needs.{needs}

@@ -1,5 +1,5 @@
 use mathlib.Core.Path.{ap, _∙_}
-use Rattle.walks.proofs.Turns.{nobody-shown}
+use Rattle.tries.proofs.Turns.{nobody-shown}
 use Rattle.planner.specs.OnBoard.{planAnswerOn}
 use borrow.Author.Needs.{needs}
 use Rattle.planner.proofs.plan_laid.Statement.{statement}

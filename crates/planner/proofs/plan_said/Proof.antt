@@ -1,5 +1,5 @@
 use mathlib.Core.Path.{sym, ap, _∙_}
-use Rattle.walks.specs.Outcomes.{planEnded}
+use Rattle.tries.specs.Outcomes.{planEnded}
 use Rattle.planner.specs.OnBoard.{planAnswerOn}
 use borrow.Author.Needs.{needs}
 use Rattle.planner.proofs.plan_said.Statement.{statement}

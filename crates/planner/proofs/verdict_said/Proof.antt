@@ -1,5 +1,5 @@
 use mathlib.Core.Path.{sym, ap, _∙_}
-use Rattle.walks.specs.Outcomes.{verdictOutcome}
+use Rattle.tries.specs.Outcomes.{verdictOutcome}
 use Rattle.planner.specs.Answers.{verdictAnswer}
 use Rattle.planner.proofs.Sayings.{verdict-shown}
 use borrow.Author.Needs.{needs}

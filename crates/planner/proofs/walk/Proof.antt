@@ -3,7 +3,7 @@ use native.Mathlib.Omega.{arith}
 use lib.Pow.{pow-pos}
 use Rattle.sets.proofs.Counting.{size-empty}
 use Rattle.games.specs.Limit.{cut}
-use Rattle.walks.proofs.Turns.{nobody-shown}
+use Rattle.tries.proofs.Turns.{nobody-shown}
 use Rattle.planner.specs.OnBoard.{walkOn}
 use borrow.Author.Needs.{needs}
 use Rattle.planner.proofs.walk.Statement.{statement}
@@ -14,7 +14,7 @@ use Rattle.cases.proofs.Filled.start.Reads as start-reads
 use Rattle.sets.proofs.People.none.Reads as none-reads
 use Rattle.walks.proofs.away_turn.Reads as away-turn-reads
 use Rattle.walks.proofs.dynamic_walk.Reads as dynamic-walk-reads
-use Rattle.walks.proofs.static_walk.Reads as static-walk-reads
+use Rattle.plans.proofs.static_walk.Reads as static-walk-reads
 use Rattle.walks.proofs.one_shot_walk.Reads as one-shot-walk-reads
 
 start-requires : tie.Need-start-requires

@@ -9,15 +9,15 @@ use Rattle.sets.specs.Stored.{width, number}
 use Rattle.games.specs.Limit.{cut}
 use Rattle.boards.specs.Arena.{boardArena}
 use Rattle.games.specs.Walks.{decremental}
-use Rattle.walks.specs.Outcomes.{verdictOutcome, turnOutcome, beatsOn}
-use Rattle.walks.specs.Trying.{tryOutcome}
-use Rattle.walks.specs.Alike.{spentOutcome}
-use Rattle.walks.proofs.Lines.{line-without}
-use Rattle.walks.proofs.Cuts.{ends}
-use Rattle.walks.proofs.Scans.{Going, try-limit, try-nobody, try-person, sub-limit, sub-within, sub-done, sub-on}
-use Rattle.walks.proofs.Sweeps.{Sweep, sweep-known, sweep-few, sweep-limit, sweep-beats, sweep-beaten, sweep-within, sweep-end, sweep-on, sweep-higher}
-use Rattle.walks.proofs.Turns.{nobody-shown, gone-walk, above-zero, some-left, placed-is, deskHunt, desk-going, decremental-full, away-going, next-some, next-none}
-use Rattle.walks.proofs.Alike.{going-as, alike-limit, alike-all, desk-alike, is-settled}
+use Rattle.tries.specs.Outcomes.{verdictOutcome, turnOutcome, beatsOn}
+use Rattle.tries.specs.Trying.{tryOutcome}
+use Rattle.tries.specs.Alike.{spentOutcome}
+use Rattle.tries.proofs.Lines.{line-without}
+use Rattle.tries.proofs.Cuts.{ends}
+use Rattle.tries.proofs.Scans.{Going, try-limit, try-nobody, try-person, sub-limit, sub-within, sub-done, sub-on}
+use Rattle.tries.proofs.Sweeps.{Sweep, sweep-known, sweep-few, sweep-limit, sweep-beats, sweep-beaten, sweep-within, sweep-end, sweep-on, sweep-higher}
+use Rattle.tries.proofs.Turns.{nobody-shown, gone-walk, above-zero, some-left, placed-is, deskHunt, desk-going, decremental-full, away-going, next-some, next-none}
+use Rattle.tries.proofs.Alike.{going-as, alike-limit, alike-all, desk-alike, is-settled}
 use Prim.Native.Nat.{ℕ, _<_}
 use borrow.Fn.Kinds.{In}
 use borrow.Fn.PlainCycle.{Measures, is, falls, and}
@@ -30,15 +30,15 @@ use Rattle.walks.proofs.+away_turn+desk_turn.Lts-desk_turn as desk-turn
 use Rattle.boards.proofs.settled.Reads as settled-reads
 use Rattle.cases.proofs.Filled.placed.Reads as placed-reads
 use Rattle.sets.proofs.People.next.Reads as next-reads
-use Rattle.walks.proofs.behind.Reads as behind-reads
+use Rattle.tries.proofs.behind.Reads as behind-reads
 use Rattle.walks.proofs.all_gone.Reads as all-gone-reads
 use Rattle.sets.proofs.People.size.Reads as size-reads
-use Rattle.walks.proofs.line_up.Reads as line-up-reads
-use Rattle.walks.proofs.next_step.Reads as next-step-reads
-use Rattle.walks.proofs.without.Reads as without-reads
+use Rattle.tries.proofs.line_up.Reads as line-up-reads
+use Rattle.tries.proofs.next_step.Reads as next-step-reads
+use Rattle.tries.proofs.without.Reads as without-reads
 use Rattle.sets.proofs.People.none.Reads as none-reads
-use Rattle.walks.proofs.next_try.Reads as next-try-reads
-use Rattle.walks.proofs.everyone.rest_alike.Reads as rest-alike-reads
+use Rattle.tries.proofs.next_try.Reads as next-try-reads
+use Rattle.tries.proofs.rest_alike.Reads as rest-alike-reads
 use Rattle.walks.proofs.+away_turn+desk_turn.{statement}
 use Rattle.walks.proofs.+away_turn+desk_turn.Tie.{close}
 

@@ -9,14 +9,14 @@ use Rattle.sets.specs.Stored.{width, number}
 use Rattle.games.specs.Walks.{dynamic}
 use Rattle.games.specs.Limit.{cut}
 use Rattle.boards.specs.Arena.{boardArena}
-use Rattle.walks.specs.Outcomes.{verdictOutcome}
-use Rattle.walks.specs.Trying.{tryOutcome}
-use Rattle.walks.proofs.Cuts.{ends}
-use Rattle.walks.proofs.Scans.{Going, try-limit, try-nobody, try-person, sub-limit, sub-within, sub-done, sub-on}
-use Rattle.walks.proofs.Turns.{nobody-shown, placed-is, dynamicHunt, dynamic-full, dynamic-going}
-use Rattle.walks.proofs.Showing.{Shown, shown-start, shown-same, shown-sum, shown-more, enough-found, one-found}
-use Rattle.walks.proofs.Alike.{going-as, dynamic-alike, is-settled}
-use Rattle.walks.proofs.Good.{dynamic-bad, dynamic-good, last-alike}
+use Rattle.tries.specs.Outcomes.{verdictOutcome}
+use Rattle.tries.specs.Trying.{tryOutcome}
+use Rattle.tries.proofs.Cuts.{ends}
+use Rattle.tries.proofs.Scans.{Going, try-limit, try-nobody, try-person, sub-limit, sub-within, sub-done, sub-on}
+use Rattle.tries.proofs.Turns.{nobody-shown, placed-is, dynamicHunt, dynamic-full, dynamic-going}
+use Rattle.tries.proofs.Showing.{Shown, shown-start, shown-same, shown-sum, shown-more, enough-found, one-found}
+use Rattle.tries.proofs.Alike.{going-as, dynamic-alike, is-settled}
+use Rattle.tries.proofs.Good.{dynamic-bad, dynamic-good, last-alike}
 use Prim.Native.Nat.{ℕ, _<_}
 use borrow.Fn.Kinds.{In}
 use borrow.Fn.PlainCycle.{Measures, is, falls, and}
@@ -27,12 +27,12 @@ use Rattle.boards.proofs.settled.Reads as settled-reads
 use Rattle.cases.proofs.Filled.placed.Reads as placed-reads
 use Rattle.sets.proofs.People.none.Reads as none-reads
 use Rattle.sets.proofs.People.with.Reads as with-reads
-use Rattle.walks.proofs.behind.Reads as behind-reads
-use Rattle.walks.proofs.everyone.all_bad.Reads as all-bad-reads
-use Rattle.walks.proofs.everyone.all_good.Reads as all-good-reads
-use Rattle.walks.proofs.line_up.Reads as line-up-reads
-use Rattle.walks.proofs.next_step.Reads as next-step-reads
-use Rattle.walks.proofs.next_try.Reads as next-try-reads
+use Rattle.tries.proofs.behind.Reads as behind-reads
+use Rattle.tries.proofs.all_bad.Reads as all-bad-reads
+use Rattle.tries.proofs.all_good.Reads as all-good-reads
+use Rattle.tries.proofs.line_up.Reads as line-up-reads
+use Rattle.tries.proofs.next_step.Reads as next-step-reads
+use Rattle.tries.proofs.next_try.Reads as next-try-reads
 use Rattle.walks.proofs.+dynamic_walk.{statement}
 use Rattle.walks.proofs.+dynamic_walk.Tie.{close}
 

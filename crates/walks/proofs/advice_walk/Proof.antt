@@ -7,21 +7,21 @@ use Rattle.sets.specs.Sets.{size, members}
 use Rattle.sets.specs.Stored.{width, number}
 use Rattle.boards.specs.Arena.{boardArena}
 use Rattle.games.specs.Limit.{cut}
-use Rattle.walks.specs.Outcomes.{verdictOutcome}
-use Rattle.walks.specs.Trying.{tryOutcome}
-use Rattle.walks.proofs.Cuts.{ends}
-use Rattle.walks.proofs.Scans.{scan, Going, try-limit, try-nobody, try-person, sub-limit, sub-within, sub-done, sub-on}
-use Rattle.walks.proofs.Turns.{placed-is, adviceHunt, advice-full, advice-total, line-going}
+use Rattle.tries.specs.Outcomes.{verdictOutcome}
+use Rattle.tries.specs.Trying.{tryOutcome}
+use Rattle.tries.proofs.Cuts.{ends}
+use Rattle.tries.proofs.Scans.{scan, Going, try-limit, try-nobody, try-person, sub-limit, sub-within, sub-done, sub-on}
+use Rattle.tries.proofs.Turns.{placed-is, adviceHunt, advice-full, advice-total, line-going}
 use Rattle.walks.proofs.advice_walk.Statement.{statement}
 use Rattle.walks.proofs.advice_walk.Tie as tie
 use Rattle.walks.proofs.advice_walk.Reads as reads
 use Rattle.walks.proofs.advice_walk.Lts as lts
 use Rattle.cases.proofs.Filled.placed.Reads as placed-reads
-use Rattle.walks.proofs.behind.Reads as behind-reads
+use Rattle.tries.proofs.behind.Reads as behind-reads
 use Rattle.walks.proofs.dynamic_walk.Reads as dynamic-walk-reads
-use Rattle.walks.proofs.line_up.Reads as line-up-reads
-use Rattle.walks.proofs.next_step.Reads as next-step-reads
-use Rattle.walks.proofs.next_try.Reads as next-try-reads
+use Rattle.tries.proofs.line_up.Reads as line-up-reads
+use Rattle.tries.proofs.next_step.Reads as next-step-reads
+use Rattle.tries.proofs.next_try.Reads as next-try-reads
 
 abbrev Inv-loop : tie.InvT-loop
 Inv-loop board people t p left limit step line₀ used₀ line used =

@@ -1,5 +1,5 @@
 use mathlib.Core.Path.{sym, ap, _∙_}
-use Rattle.walks.specs.Outcomes.{turnOutcome}
+use Rattle.tries.specs.Outcomes.{turnOutcome}
 use borrow.Author.Needs.{needs}
 use Rattle.walks.proofs.all_gone.Statement.{statement}
 use Rattle.walks.proofs.all_gone.Tie as tie

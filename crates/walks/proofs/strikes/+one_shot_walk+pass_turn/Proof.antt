@@ -7,13 +7,13 @@ use Prim.Native.Nat.{_+_, _-_, _*_}
 use Rattle.sets.specs.Sets.{size}
 use Rattle.sets.specs.Stored.{width, number}
 use Rattle.games.specs.Limit.{cut}
-use Rattle.walks.specs.Outcomes.{verdictOutcome, turnOutcome, passOn}
-use Rattle.walks.specs.Trying.{tryOutcome}
-use Rattle.walks.specs.Alike.{spentOutcome}
-use Rattle.walks.proofs.Cuts.{finished, ends, first-limit, first-got, first-none}
-use Rattle.walks.proofs.Scans.{Going, try-limit, try-nobody, try-person, sub-limit, sub-within, sub-done, sub-on}
-use Rattle.walks.proofs.Turns.{above-zero, some-left, placed-is, nobody-shown, passHunt, pass-going, oneShot-full, oneShot-turn}
-use Rattle.walks.proofs.Alike.{going-as, alike-limit, alike-all, pass-alike, is-settled}
+use Rattle.tries.specs.Outcomes.{verdictOutcome, turnOutcome, passOn}
+use Rattle.tries.specs.Trying.{tryOutcome}
+use Rattle.tries.specs.Alike.{spentOutcome}
+use Rattle.tries.proofs.Cuts.{finished, ends, first-limit, first-got, first-none}
+use Rattle.tries.proofs.Scans.{Going, try-limit, try-nobody, try-person, sub-limit, sub-within, sub-done, sub-on}
+use Rattle.tries.proofs.Turns.{above-zero, some-left, placed-is, nobody-shown, passHunt, pass-going, oneShot-full, oneShot-turn}
+use Rattle.tries.proofs.Alike.{going-as, alike-limit, alike-all, pass-alike, is-settled}
 use Prim.Native.Nat.{ℕ, _<_}
 use borrow.Fn.Kinds.{In}
 use borrow.Fn.PlainCycle.{Measures, is, falls, and}
@@ -26,11 +26,11 @@ use Rattle.walks.proofs.strikes.+one_shot_walk+pass_turn.Lts-pass_turn 
 use Rattle.boards.proofs.settled.Reads as settled-reads
 use Rattle.cases.proofs.Filled.placed.Reads as placed-reads
 use Rattle.sets.proofs.People.none.Reads as none-reads
-use Rattle.walks.proofs.behind.Reads as behind-reads
-use Rattle.walks.proofs.line_up.Reads as line-up-reads
-use Rattle.walks.proofs.next_step.Reads as next-step-reads
-use Rattle.walks.proofs.next_try.Reads as next-try-reads
-use Rattle.walks.proofs.everyone.rest_alike.Reads as rest-alike-reads
+use Rattle.tries.proofs.behind.Reads as behind-reads
+use Rattle.tries.proofs.line_up.Reads as line-up-reads
+use Rattle.tries.proofs.next_step.Reads as next-step-reads
+use Rattle.tries.proofs.next_try.Reads as next-try-reads
+use Rattle.tries.proofs.rest_alike.Reads as rest-alike-reads
 use Rattle.walks.proofs.strikes.then_strikes.Reads as then-strikes-reads
 use Rattle.walks.proofs.strikes.+one_shot_walk+pass_turn.{statement}
 use Rattle.walks.proofs.strikes.+one_shot_walk+pass_turn.Tie.{close}

@@ -1,13 +1,13 @@
 use mathlib.Core.Path.{sym, ap, _∙_}
 use native.Mathlib.Omega.{arith}
 use borrow.Author.Needs.{needs}
-use Rattle.walks.specs.Outcomes.{verdictOutcome}
-use Rattle.walks.proofs.Cuts.{after-limit, after-within, after-ended}
+use Rattle.tries.specs.Outcomes.{verdictOutcome}
+use Rattle.tries.proofs.Cuts.{after-limit, after-within, after-ended}
 use Rattle.walks.proofs.strikes.then_strikes.Statement.{statement}
 use Rattle.walks.proofs.strikes.then_strikes.Tie as tie
 use Rattle.walks.proofs.strikes.then_strikes.Reads as reads
 use Rattle.walks.proofs.strikes.then_strikes.Lts as lts
-use Rattle.walks.proofs.static_walk.Reads as static-walk-reads
+use Rattle.plans.proofs.static_walk.Reads as static-walk-reads
 
 sub-static-walk : tie.Need-sub-static-walk
 sub-static-walk c = search needs

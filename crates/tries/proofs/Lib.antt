@@ -1,0 +1,12 @@
+-- What every search's proof uses.
+pub mod Cuts
+pub mod Scans
+pub mod Hunts
+pub mod Lines
+pub mod Sweeps
+pub mod Tries
+pub mod Turns
+pub mod Showing
+pub mod Settled
+pub mod Alike
+pub mod Good

@@ -1,0 +1,70 @@
+-- What the searches' answers say, as the answers of `cut`; and the walks of `games` on a board that they are compared with.
+use mathlib.Core.Option.{Option, none, some}
+use mathlib.Core.List.{List}
+use Prim.Native.Nat.{ℕ}
+use Rattle.sets.specs.Stored.{number}
+use Rattle.games.specs.Walks.{Search, ifNone, unbeaten, desk, decremental, oneShot, advice}
+use Rattle.games.specs.Limit.{Answer, stopped, whole}
+use Rattle.cases.specs.declared.Filled.{Filled}
+use Rattle.boards.specs.Arena.{Done, boardArena}
+use Rattle.tries.specs.declared.PlanEnd.{PlanEnd}
+use Rattle.tries.specs.declared.PlanEnd.the-variants as planEnd
+use Rattle.tries.specs.declared.Planned.{Planned}
+use Rattle.tries.specs.declared.Verdict.{Verdict}
+use Rattle.tries.specs.declared.Verdict.the-variants as verdict
+use Rattle.tries.specs.declared.Advised.{Advised}
+use Rattle.tries.specs.declared.Advised.the-variants as advised
+use Rattle.tries.specs.declared.Turn.{Turn}
+use Rattle.tries.specs.declared.Turn.the-variants as turn
+
+-- ---- What an answer says, under a limit l
+
+-- something got, or nothing, in c trials
+abbrev pub found : {B : Type 0} → B → ℕ → Answer (Option B)
+found b c = whole (record { got = some b; trials = c })
+
+abbrev pub nothing : {B : Type 0} → ℕ → Answer (Option B)
+nothing c = whole (record { got = none; trials = c })
+
+abbrev pub planEnded : ℕ → Filled → PlanEnd → Answer (Option Filled)
+planEnded l q planEnd.Limit = stopped l
+planEnded l q (planEnd.No c) = nothing c
+planEnded l q (planEnd.Yes c) = found q c
+
+abbrev pub planOutcome : ℕ → Planned → Answer (Option Filled)
+planOutcome l r = planEnded l (r .plan) (r .end)
+
+abbrev pub verdictOutcome : ℕ → Verdict → Answer (Option ℕ)
+verdictOutcome l verdict.Limit = stopped l
+verdictOutcome l (verdict.Yes c) = nothing c
+verdictOutcome l (verdict.No s c) = found (number s) c
+
+abbrev pub advisedOutcome : ℕ → Advised → Answer (Option ℕ)
+advisedOutcome l advised.Limit = stopped l
+advisedOutcome l (advised.Nobody c) = nothing c
+advisedOutcome l (advised.Person v c) = found (v .0) c
+
+-- a turn of the desk with A away: A is got exactly if it beats the desk
+abbrev pub turnOutcome : ℕ → ℕ → Turn → Answer (Option ℕ)
+turnOutcome l A turn.Limit = stopped l
+turnOutcome l A (turn.Beaten c) = found A c
+turnOutcome l A (turn.Holds c) = nothing c
+
+-- ---- Walks on a board b for n people
+
+abbrev pub named : Option (ℕ × Done) → Option ℕ
+named none = none
+named (some a) = some (a .0)
+
+module _ (b : List ℕ) (n t : ℕ) where
+  -- a turn of the desk in the decremental game with A away and k steps left after it: A where it beats the desk
+  unfoldable pub beatsOn : ℕ → Filled → ℕ → Search ℕ
+  beatsOn k p A = ifNone A (desk (boardArena b n) (λ q. unbeaten (decremental (boardArena b n) t k A q)) A p)
+
+  -- a turn of the desk in the one-shot game after a pass, with k steps left after it: nobody, where the pass beats the desk
+  unfoldable pub passOn : ℕ → Filled → Search ℕ
+  passOn k p = ifNone 0 (desk (boardArena b n) (λ q. unbeaten (oneShot (boardArena b n) t k q)) 0 p)
+
+  -- advice names a person and a move; where one step is ready, the person says it all
+  abbrev pub adviceOn : ℕ → ℕ → Filled → Search ℕ
+  adviceOn k A p = let w = advice (boardArena b n) t k A p in record { got = named (w .got); trials = w .trials }

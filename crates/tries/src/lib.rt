@@ -1,0 +1,149 @@
+// What all searches share: the answers, and the line of people at a position. It knows the board, and no search.
+//
+// A position's people are lined up once: those who cost a trial, and among them those with whom every rule holds. Each turn of a loop then goes
+// straight to the next person worth a try, and counts those passed over, each a trial, without looking at them.
+mod everyone;
+
+use boards::PLACES;
+use boards::allowed;
+use boards::fits;
+use boards::ready;
+use cases::Case;
+use cases::Filled;
+use cases::Person;
+use cases::Step;
+pub use everyone::all_bad;
+pub use everyone::all_good;
+pub use everyone::rest_alike;
+use sets::Lowest;
+use sets::People;
+use sets::lowest_in;
+ghost use mathlib.Core.Path.{_≡_};
+ghost use Prim.Native.Nat.{_≤_};
+ghost use Rattle.sets.specs.Sets.{after, difference};
+ghost use Rattle.sets.specs.Stored.{width, number};
+ghost use Rattle.tries.specs.Trying.{tryOutcome, tried, stepOn, InLine};
+
+// How a search for a plan ended.
+pub enum PlanEnd {
+    Limit,
+    No(u32),
+    Yes(u32),
+}
+
+// Where the end is yes, `plan` is the plan.
+pub struct Planned {
+    pub end: PlanEnd,
+    pub plan: Filled,
+}
+
+// A verdict with its trials; a no shows a set.
+pub enum Verdict {
+    Limit,
+    Yes(u32),
+    No(People, u32),
+}
+
+// Advice with its trials.
+pub enum Advised {
+    Limit,
+    Nobody(u32),
+    Person(Person, u32),
+}
+
+// A turn of the desk, with its trials: beaten, or not.
+pub enum Turn {
+    Limit,
+    Beaten(u32),
+    Holds(u32),
+}
+
+// The people still to be tried at a position: each of `tried` costs a trial, and with those of `fit`, who are among them, every rule holds.
+pub struct Line {
+    pub tried: People,
+    pub fit: People,
+}
+
+// The next person worth a try, with the trials used when they are tried; or nobody, with the trials used when all are.
+pub enum Try {
+    Limit,
+    Nobody(u32),
+    Person(Person, u32),
+}
+
+// The trials used when a whole line is tried, or that they are more than the limit.
+pub enum Spent {
+    Limit,
+    All(u32),
+}
+
+// The step that is ready, 32 where none is.
+pub fn next_step(board: &[u32; PLACES], p: Filled) -> Step
+    ensures { λ r. ⌜ r .0 ≡ stepOn (now (board .entry)) p ⌝ }
+{
+    Step(lowest_in(ready(board, p) as u32))
+}
+
+// The line at a position, for the step that is ready, with some people away. Where no step is ready nobody is in line.
+pub fn line_up(board: &[u32; PLACES], people: u8, absent: People, p: Filled, step: Step) -> Line
+    requires { ⌜ step .0 ≡ stepOn (now board) p ⌝ }
+    ensures { λ r. ⌜ InLine (now (board .entry)) people (number absent) p (number (r .tried)) (number (r .fit)) ⌝ }
+{
+    let at = step.0;
+    if Case::STEPS <= (at as usize) {
+        return Line {
+            tried: People::none(),
+            fit: People::none(),
+        };
+    }
+    let tried = allowed(board, step)
+        .difference(absent)
+        .common(People::everybody(people));
+    Line {
+        tried: tried,
+        fit: fits(board, p, step, tried),
+    }
+}
+
+// The next person worth a try, where `used` trials were used before.
+pub fn next_try(line: Line, used: u32, limit: u32) -> Try
+    requires { ⌜ used ≤ limit ⌝ }
+    ensures { λ r. ⌜ tryOutcome r ≡ tried (number (line .tried)) (number (line .fit)) used limit ⌝ }
+{
+    match line.fit.lowest() {
+        Lowest::Nobody => {
+            let trials = line.tried.size();
+            if limit - used < trials {
+                return Try::Limit;
+            }
+            Try::Nobody(used + trials)
+        }
+        Lowest::Person(v) => {
+            let passed = line.tried.before(v);
+            if limit - used <= passed {
+                return Try::Limit;
+            }
+            Try::Person(Person(v), used + passed + 1)
+        }
+    }
+}
+
+// The line behind a person.
+pub fn behind(line: Line, v: Person) -> Line
+    ensures { λ r. ⌜ (number (r .tried) ≡ after width (number (line .tried)) (v .0)) × (number (r .fit) ≡ after width (number (line .fit)) (v .0)) ⌝ }
+{
+    Line {
+        tried: line.tried.after(v.0),
+        fit: line.fit.after(v.0),
+    }
+}
+
+// The line without some people.
+pub fn without(line: Line, away: People) -> Line
+    ensures { λ r. ⌜ (number (r .tried) ≡ difference width (number (line .tried)) (number away)) × (number (r .fit) ≡ difference width (number (line .fit)) (number away)) ⌝ }
+{
+    Line {
+        tried: line.tried.difference(away),
+        fit: line.fit.difference(away),
+    }
+}
