@@ -47,10 +47,10 @@ pub fn lay_out(c: Case, order: Order) -> [u32; PLACES]
     ensures { λ r. ⌜ r ≡ laidOut c order ⌝ }
 {
     let counts = c.counts;
-    let people = counts.people as u8;
-    let kinds = (counts.tables as u8) + 2;
-    let steps = counts.steps as u8;
-    let rules = counts.rules as u8;
+    let people = capped(counts.people as u8, Case::PEOPLE as u8);
+    let kinds = capped(counts.tables as u8, Case::TABLES as u8) + 2;
+    let steps = capped(counts.steps as u8, Case::STEPS as u8);
+    let rules = capped(counts.rules as u8, Case::RULES as u8);
     let held = c.people;
     let chain = c.steps;
     let listed = c.rules;
@@ -67,6 +67,14 @@ pub fn lay_out(c: Case, order: Order) -> [u32; PLACES]
     put_ready(&mut board, steps);
     put_complete(&mut board, steps, rules);
     board
+}
+
+// A count, which is within its limit: seen to be, so that no turn of a loop up to it tests its place.
+fn capped(n: u8, most: u8) -> u8
+    requires { ⌜ n ≤ most ⌝ }
+    ensures { λ r. ⌜ r ≡ n ⌝ }
+{
+    if n < most { n } else { most }
 }
 
 // The words of the first n table rows, 0 past them.
@@ -323,9 +331,10 @@ fn ready(board: &[u32; PLACES], n: u8, f: u16) -> u8
     requires { ⌜ n ≤ mostSteps ⌝ }
     ensures { λ r. ⌜ r ≡ readyIn (now (board .entry)) n f ⌝ }
 {
+    let end = capped(n, Case::STEPS as u8);
     let mut set: u8 = 0;
     let mut s: u8 = 0;
-    while s < n {
+    while s < end {
         let before = board[BEFORE + (s as usize)] % (STEP_SETS as u32);
         set = with_step_if(set, s, both(!holds(f, s), within(before, f as u32)));
         s += 1;
