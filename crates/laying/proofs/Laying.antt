@@ -7,7 +7,7 @@ use native.Mathlib.Nat.{mul-le-mul}
 use native.Mathlib.Decide.{decLt}
 use native.Mathlib.Omega.{arith}
 use borrow.Author.Tests.{lt-ltb, le-ltb, ltb-true, ltb-false}
-use lib.Dec.{ltb}
+use lib.Dec.{eqb, ltb}
 use lib.ListN.{getD, List·getD-eq-default}
 use lib.Pow.{pow-pos}
 use Rattle.sets.specs.Lists.{pick, upto, keep, all}
@@ -29,9 +29,10 @@ use Rattle.laying.specs.declared.Order.{Order}
 use Rattle.laying.specs.declared.Order.the-variants as order
 use Rattle.laying.specs.Laid.{packed, names, pairOf, rowOf, columnOf, loopsOf, allowedOf, namedOf, stepsOf, preceding, beforeOf, packedOf, readyOf, completeOf, laidOut}
 use Rattle.laying.specs.Ready.{Bounded}
-use Rattle.laying.specs.Parts.{relatedIn, rowIn, columnIn, loopsIn, allowedIn, namedIn, precedingIn, readyIn, namingOnly, completeIn, laidFrom, laidBlocks, Front}
+use Rattle.laying.specs.Parts.{relatedIn, rowIn, gatheredIn, columnIn, loopsIn, allowedIn, namedIn, precedingIn, readyIn, namingOnly, completeIn, laidFrom, laidBlocks, Front}
 use Rattle.laying.proofs.Places.{row-at, column-at, loops-at, allowed-at, named-at, before-at, rule-at, ready-at, complete-at, laid-length}
 use Rattle.laying.proofs.Tests.{all-keep}
+use Rattle.laying.proofs.Rows.{eqb-turned}
 use Rattle.laying.proofs.OffSets.{sets-few}
 use Rattle.laying.proofs.Writing.{blank, front-start, front-from, front-blocks, front-end}
 
@@ -43,6 +44,12 @@ unless false x y f g = g refl
 -- a set that nobody is in
 nobody : (f : ℕ → Bool) (w : ℕ) → ((v : ℕ) → v < w → f v ≡ false) → setOf f w ≡ (let z : ℕ = 0 in z)
 nobody f w h = sym (is-setOf f w 0 (pow-pos w) (λ v l. has-empty v ∙ sym (h v l)))
+
+and-turned : (a b x y : Bool) → x ≡ y → a && (b && x) ≡ b && (a && y)
+and-turned true true x y e = e
+and-turned true false x y e = refl
+and-turned false true x y e = refl
+and-turned false false x y e = refl
 
 pub rows-few : (t n : ℕ) → t ≤ mostTables → n ≤ mostPeople → t * n ≤ mostTables * mostPeople
 rows-few t n h g = mul-le-mul h g
@@ -87,6 +94,13 @@ module _ (c : Case) (o : Order) (counts : Bounded (c .counts)) where
       go true true q = absurd (true≢false q)
       go true false q = and-false-end (ltb u n)
       go false y q = refl
+
+  -- "same person" and "different person" are the same both ways
+  pair-turned : (k u v : ℕ) → k < 2 → pairOf c k u v ≡ pairOf c k v u
+  unfolding pairOf related
+  pair-turned zero u v h = ap (λ (d : Bool). ltb 0 m && d) (and-turned (ltb u n) (ltb v n) (eqb u v) (eqb v u) (eqb-turned u v))
+  pair-turned (suc zero) u v h = ap (λ (d : Bool). ltb 1 m && d) (and-turned (ltb u n) (ltb v n) (not (eqb u v)) (not (eqb v u)) (ap not (eqb-turned u v)))
+  pair-turned (suc (suc k)) u v h = absurd (omega arith)
 
   may-here : (u s : ℕ) → u < n → ltb s (steps c) ≡ true → may c u s ≡ meets mostRoles (getD (c .people) u 0) (getD (c .steps) s zeroStep .roles)
   unfolding may rolesHeld rolesFor entry
@@ -146,12 +160,23 @@ module _ (c : Case) (o : Order) (counts : Bounded (c .counts)) where
 
     column-part : (k v : ℕ) → k < relations → v < mostPeople
         → getD b (columnsFrom + (k * mostPeople + v)) 0 ≡ pick (ltb k m && ltb v n) (columnIn out n k v) 0
-    unfolding setAt columnOf columnIn
+    unfolding setAt rowOf columnOf columnIn gatheredIn
     column-part k v h l =
         column-at c o k v h l
-        ∙ unless (ltb k m && ltb v n) (setOf (λ u. pairOf c k u v) width) (setOf (λ u. ltb u n && has (getD out (rowPlace k u) 0) v) width)
-        (λ e. setOf-ext _ _ width (λ u i. sym (row-has k u v h i l)))
+        ∙ unless (ltb k m && ltb v n) (setOf (λ u. pairOf c k u v) width) (pick (ltb k 2) (getD out (rowPlace k v) 0) gathered)
+        (λ e. either-way (decLt k 2))
         (λ e. nobody _ width (λ u i. column-unknown k u v e))
+      where
+        gathered : ℕ
+        gathered = setOf (λ u. ltb u n && has (getD out (rowPlace k u) 0) v) width
+
+        either-way : Dec (k < 2) → setOf (λ u. pairOf c k u v) width ≡ pick (ltb k 2) (getD out (rowPlace k v) 0) gathered
+        either-way (yes i) =
+            setOf-ext _ _ width (λ u j. pair-turned k u v i) ∙ sym (front .done (rowPlace k v) (omega arith) ∙ row-at c o k v h l)
+            ∙ sym (ap (λ (d : Bool). pick d (getD out (rowPlace k v) 0) gathered) (lt-ltb k 2 i))
+        either-way (no i) =
+            setOf-ext _ _ width (λ u j. sym (row-has k u v h j l))
+            ∙ sym (ap (λ (d : Bool). pick d (getD out (rowPlace k v) 0) gathered) (le-ltb k 2 (omega arith)))
 
     loops-part : (k : ℕ) → k < relations → getD b (loopsFrom + k) 0 ≡ pick (ltb k m) (loopsIn out n k) 0
     unfolding setAt loopsOf loopsIn

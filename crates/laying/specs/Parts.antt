@@ -30,9 +30,12 @@ rowIn words n k u = setOf (λ v. ltb v n && relatedIn words n k u v) width
 
 -- ---- What is read off the rows of a board, for n people
 
--- the people u whose row in relation k has v, and those whose row has themselves
+-- the people u whose row in relation k has v; the column of v, which is their row in the first two relations; the people whose row has themselves
+unfoldable pub gatheredIn : List ℕ → ℕ → ℕ → ℕ → ℕ
+gatheredIn b n k v = setOf (λ u. ltb u n && has (setAt b (rowPlace k u)) v) width
+
 unfoldable pub columnIn : List ℕ → ℕ → ℕ → ℕ → ℕ
-columnIn b n k v = setOf (λ u. ltb u n && has (setAt b (rowPlace k u)) v) width
+columnIn b n k v = pick (ltb k 2) (setAt b (rowPlace k v)) (gatheredIn b n k v)
 
 unfoldable pub loopsIn : List ℕ → ℕ → ℕ → ℕ
 loopsIn b n k = setOf (λ u. ltb u n && has (setAt b (rowPlace k u)) u) width

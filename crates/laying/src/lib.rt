@@ -33,7 +33,7 @@ ghost use Rattle.cases.specs.Case.{mostPeople, mostSteps, mostTables, mostRules
 ghost use Rattle.boards.specs.Board.{relations, columnsFrom, loopsFrom, allowedFrom, namedFrom, beforeFrom, rulesFrom, readyFrom, completeFrom};
 ghost use Rattle.laying.specs.Laid.{packed, names, laidOut};
 ghost use Rattle.laying.specs.Ready.{Bounded};
-ghost use Rattle.laying.specs.Parts.{rowIn, columnIn, loopsIn, allowedIn, namedIn, precedingIn, readyIn, namingOnly, completeIn, laidFrom, laidBlocks};
+ghost use Rattle.laying.specs.Parts.{rowIn, gatheredIn, columnIn, loopsIn, allowedIn, namedIn, precedingIn, readyIn, namingOnly, completeIn, laidFrom, laidBlocks};
 
 // In which order the steps are filled: as they are listed, or as the desk chooses among those whose preceding steps are filled.
 pub enum Order {
@@ -155,10 +155,21 @@ fn put_column(board: &mut [u32; PLACES], people: u8, k: u8)
     }
 }
 
-// The people whose row in relation k has v.
+// The column of person v in relation k: their row where the relation is the same both ways, as "same person" and "different person" are.
 fn column(board: &[u32; PLACES], people: u8, k: u8, v: u8) -> People
     requires { ⌜ people ≤ mostPeople ⌝ }
     ensures { λ r. ⌜ number r ≡ columnIn (now (board .entry)) people k v ⌝ }
+{
+    if k < 2 {
+        return People::at(board, (k as usize) * Case::PEOPLE + (v as usize));
+    }
+    gathered(board, people, k, v)
+}
+
+// The people whose row in relation k has v.
+fn gathered(board: &[u32; PLACES], people: u8, k: u8, v: u8) -> People
+    requires { ⌜ people ≤ mostPeople ⌝ }
+    ensures { λ r. ⌜ number r ≡ gatheredIn (now (board .entry)) people k v ⌝ }
 {
     let mut set = People::none();
     let mut u: u8 = 0;
