@@ -5,7 +5,7 @@ use mathlib.Core.List.{List}
 use Prim.Native.Nat.{ℕ, zero, suc, _+_, _-_, _*_, _/_, _%_, _≤_, _<_}
 use lib.Dec.{eqb, leb, ltb}
 use lib.ListN.{length, getD}
-use Rattle.sets.specs.Lists.{pick, upto, all}
+use Rattle.sets.specs.Lists.{pick, upto, all, any}
 use Rattle.sets.specs.Sets.{has, setOf, meets, within, everybody}
 use Rattle.sets.specs.Stored.{width, setAt}
 use Rattle.words.specs.Part.{table}
@@ -68,6 +68,10 @@ namingOnly b rules f n = setOf (λ i. has rules i && all (λ x. has f x || not (
 -- of n rules, those that name no step outside f
 unfoldable pub completeIn : List ℕ → ℕ → ℕ → ℕ
 completeIn b n f = namingOnly b (everybody mostRules n) f mostSteps
+
+-- the rules that name some step in g
+unfoldable pub namingSome : List ℕ → ℕ → ℕ
+namingSome b g = setOf (λ i. any (λ x. has g x && has (getD b (namedPlace x) 0) i) (upto mostSteps)) mostRules
 
 -- ---- A board with a part put onto it
 
