@@ -7,7 +7,7 @@ use native.Mathlib.Nat.{mul-le-mul}
 use native.Mathlib.Decide.{decLt}
 use native.Mathlib.Omega.{arith}
 use borrow.Author.Tests.{lt-ltb, le-ltb, ltb-true, ltb-false}
-use lib.Dec.{ltb}
+use lib.Dec.{eqb, ltb}
 use lib.ListN.{getD, List·getD-eq-default}
 use lib.Pow.{pow-pos}
 use Rattle.sets.specs.Lists.{pick, upto, keep, all}
@@ -29,9 +29,10 @@ use Rattle.laying.specs.declared.Order.{Order}
 use Rattle.laying.specs.declared.Order.the-variants as order
 use Rattle.laying.specs.Laid.{packed, names, pairOf, rowOf, columnOf, loopsOf, allowedOf, namedOf, stepsOf, preceding, beforeOf, packedOf, readyOf, completeOf, laidOut}
 use Rattle.laying.specs.Ready.{Bounded}
-use Rattle.laying.specs.Parts.{relatedIn, rowIn, columnIn, loopsIn, allowedIn, namedIn, precedingIn, readyIn, namingOnly, completeIn, laidFrom, laidBlocks, Front}
+use Rattle.laying.specs.Parts.{relatedIn, rowIn, gatheredIn, columnIn, loopsIn, allowedIn, namedIn, precedingIn, readyIn, namingOnly, completeIn, laidFrom, laidBlocks, Front}
 use Rattle.laying.proofs.Places.{row-at, column-at, loops-at, allowed-at, named-at, before-at, rule-at, ready-at, complete-at, laid-length}
 use Rattle.laying.proofs.Tests.{all-keep}
+use Rattle.laying.proofs.Rows.{eqb-turned}
 use Rattle.laying.proofs.OffSets.{sets-few}
 use Rattle.laying.proofs.Writing.{blank, front-start, front-from, front-blocks, front-end}
 
@@ -43,6 +44,12 @@ unless false x y f g = g refl
 -- a set that nobody is in
 nobody : (f : ℕ → Bool) (w : ℕ) → ((v : ℕ) → v < w → f v ≡ false) → setOf f w ≡ (let z : ℕ = 0 in z)
 nobody f w h = sym (is-setOf f w 0 (pow-pos w) (λ v l. has-empty v ∙ sym (h v l)))
+
+and-turned : (a b x y : Bool) → x ≡ y → a && (b && x) ≡ b && (a && y)
+and-turned true true x y e = e
+and-turned true false x y e = refl
+and-turned false true x y e = refl
+and-turned false false x y e = refl
 
 pub rows-few : (t n : ℕ) → t ≤ mostTables → n ≤ mostPeople → t * n ≤ mostTables * mostPeople
 rows-few t n h g = mul-le-mul h g
@@ -87,6 +94,13 @@ module _ (c : Case) (o : Order) (counts : Bounded (c .counts)) where
       go true true q = absurd (true≢false q)
       go true false q = and-false-end (ltb u n)
       go false y q = refl
+
+  -- "same person" and "different person" are the same both ways
+  pair-turned : (k u v : ℕ) → k < 2 → pairOf c k u v ≡ pairOf c k v u
+  unfolding pairOf related
+  pair-turned zero u v h = ap (λ (d : Bool). ltb 0 m && d) (and-turned (ltb u n) (ltb v n) (eqb u v) (eqb v u) (eqb-turned u v))
+  pair-turned (suc zero) u v h = ap (λ (d : Bool). ltb 1 m && d) (and-turned (ltb u n) (ltb v n) (not (eqb u v)) (not (eqb v u)) (ap not (eqb-turned u v)))
+  pair-turned (suc (suc k)) u v h = absurd (omega arith)
 
   may-here : (u s : ℕ) → u < n → ltb s (steps c) ≡ true → may c u s ≡ meets mostRoles (getD (c .people) u 0) (getD (c .steps) s zeroStep .roles)
   unfolding may rolesHeld rolesFor entry
@@ -146,12 +160,23 @@ module _ (c : Case) (o : Order) (counts : Bounded (c .counts)) where
 
     column-part : (k v : ℕ) → k < relations → v < mostPeople
         → getD b (columnsFrom + (k * mostPeople + v)) 0 ≡ pick (ltb k m && ltb v n) (columnIn out n k v) 0
-    unfolding setAt columnOf columnIn
+    unfolding setAt rowOf columnOf columnIn gatheredIn
     column-part k v h l =
         column-at c o k v h l
-        ∙ unless (ltb k m && ltb v n) (setOf (λ u. pairOf c k u v) width) (setOf (λ u. ltb u n && has (getD out (rowPlace k u) 0) v) width)
-        (λ e. setOf-ext _ _ width (λ u i. sym (row-has k u v h i l)))
+        ∙ unless (ltb k m && ltb v n) (setOf (λ u. pairOf c k u v) width) (pick (ltb k 2) (getD out (rowPlace k v) 0) gathered)
+        (λ e. either-way (decLt k 2))
         (λ e. nobody _ width (λ u i. column-unknown k u v e))
+      where
+        gathered : ℕ
+        gathered = setOf (λ u. ltb u n && has (getD out (rowPlace k u) 0) v) width
+
+        either-way : Dec (k < 2) → setOf (λ u. pairOf c k u v) width ≡ pick (ltb k 2) (getD out (rowPlace k v) 0) gathered
+        either-way (yes i) =
+            setOf-ext _ _ width (λ u j. pair-turned k u v i) ∙ sym (front .done (rowPlace k v) (omega arith) ∙ row-at c o k v h l)
+            ∙ sym (ap (λ (d : Bool). pick d (getD out (rowPlace k v) 0) gathered) (lt-ltb k 2 i))
+        either-way (no i) =
+            setOf-ext _ _ width (λ u j. sym (row-has k u v h j l))
+            ∙ sym (ap (λ (d : Bool). pick d (getD out (rowPlace k v) 0) gathered) (le-ltb k 2 (omega arith)))
 
     loops-part : (k : ℕ) → k < relations → getD b (loopsFrom + k) 0 ≡ pick (ltb k m) (loopsIn out n k) 0
     unfolding setAt loopsOf loopsIn
@@ -252,29 +277,39 @@ module _ (c : Case) (o : Order) (counts : Bounded (c .counts)) where
             ∙ has-setOf (λ j. ltb j used && names (getD (c .rules) j zeroRule) x) mostRules i l
             ∙ ap (λ (d : Bool). d && names (getD (c .rules) i zeroRule) x) e)))
 
-  -- ---- the parts put together
+  -- ---- the parts put together, with n′ people, t tables, s steps and r rules, which are the case's
 
-  pub laid : (words b₀ b₁ b₂ b₃ b₄ b₅ b₆ b₇ b₈ b₉ : List ℕ) → words ≡ table (λ i. number (entry noPeople (tables c * n) (c .rows) i)) (mostTables * mostPeople)
-      → b₀ ≡ blank places → b₁ ≡ laidBlocks 0 m n (rowIn words n) b₀ → b₂ ≡ laidBlocks columnsFrom m n (columnIn b₁ n) b₁
-      → b₃ ≡ laidFrom loopsFrom m (loopsIn b₂ n) b₂
-      → b₄ ≡ laidFrom allowedFrom (steps c) (λ s. allowedIn (c .people) n (getD (c .steps) s zeroStep .roles)) b₃
-      → b₅ ≡ laidFrom namedFrom mostSteps (namedIn (c .rules) (c .counts .rules)) b₄
-      → b₆ ≡ laidFrom beforeFrom (steps c) (λ s. precedingIn (getD (c .steps) s zeroStep) o s) b₅
-      → b₇ ≡ laidFrom rulesFrom (c .counts .rules) (λ i. packed (getD (c .rules) i zeroRule)) b₆
-      → b₈ ≡ laidFrom readyFrom (2 ^ steps c) (readyIn b₇ (steps c)) b₇
-      → b₉ ≡ laidFrom completeFrom (2 ^ steps c) (completeIn b₈ (c .counts .rules)) b₈ → b₉ ≡ laidOut c o
-  laid words b₀ b₁ b₂ b₃ b₄ b₅ b₆ b₇ b₈ b₉ w e₀ e₁ e₂ e₃ e₄ e₅ e₆ e₇ e₈ e₉ =
-      let few : m ≤ relations = omega (arith, counts .tables) in
-      let f₀ : Front b 0 b₀ = subst (λ x. Front b 0 x) (sym e₀) (front-start b) in
-      let f₁ = front-blocks b f₀ m n (rowIn words n) b₁ few (omega arith) (row-part words w) e₁ in
-      let f₂ = front-blocks b f₁ m n (columnIn b₁ n) b₂ few (omega arith) (column-part b₁ columnsFrom f₁ (omega arith)) e₂ in
-      let f₃ = front-from b f₂ m relations (loopsIn b₂ n) b₃ few (omega arith) (loops-part b₂ loopsFrom f₂ (omega arith)) e₃ in
-      let f₄ = front-from b f₃ (steps c) mostSteps _ b₄ (counts .steps) (omega arith) allowed-part e₄ in
-      let f₅ = front-from b f₄ mostSteps mostSteps _ b₅ (omega arith) (omega arith) named-part e₅ in
-      let f₆ = front-from b f₅ (steps c) mostSteps _ b₆ (counts .steps) (omega arith) before-part e₆ in
-      let f₇ = front-from b f₆ (c .counts .rules) mostRules _ b₇ (counts .rules) (omega arith) rules-part e₇ in
-      let sets : 2 ^ steps c ≤ stepSets = sets-few (steps c) (counts .steps) in
-      let f₈ = front-from b f₇ (2 ^ steps c) stepSets (readyIn b₇ (steps c)) b₈ sets (omega arith) (ready-part b₇ readyFrom f₇ (omega arith)) e₈ in
-      let f₉ = front-from b f₈ (2 ^ steps c) stepSets (completeIn b₈ (c .counts .rules)) b₉ sets (omega arith)
-      (complete-part b₈ completeFrom f₈ (omega arith)) e₉ in
-      front-end b (laid-length c o) f₉
+  module _ (n′ t s r : ℕ) (qn : n′ ≡ n) (qt : t ≡ tables c) (qs : s ≡ steps c) (qr : r ≡ c .counts .rules) where
+    pub laid : (words b₀ b₁ b₂ b₃ b₄ b₅ b₆ b₇ b₈ b₉ : List ℕ) → words ≡ table (λ i. number (entry noPeople (tables c * n) (c .rows) i)) (mostTables * mostPeople)
+        → b₀ ≡ blank places → b₁ ≡ laidBlocks 0 (t + 2) n′ (rowIn words n′) b₀ → b₂ ≡ laidBlocks columnsFrom (t + 2) n′ (columnIn b₁ n′) b₁
+        → b₃ ≡ laidFrom loopsFrom (t + 2) (loopsIn b₂ n′) b₂
+        → b₄ ≡ laidFrom allowedFrom s (λ x. allowedIn (c .people) n′ (getD (c .steps) x zeroStep .roles)) b₃
+        → b₅ ≡ laidFrom namedFrom mostSteps (namedIn (c .rules) r) b₄
+        → b₆ ≡ laidFrom beforeFrom s (λ x. precedingIn (getD (c .steps) x zeroStep) o x) b₅
+        → b₇ ≡ laidFrom rulesFrom r (λ i. packed (getD (c .rules) i zeroRule)) b₆
+        → b₈ ≡ laidFrom readyFrom (2 ^ s) (readyIn b₇ s) b₇
+        → b₉ ≡ laidFrom completeFrom (2 ^ s) (completeIn b₈ r) b₈ → b₉ ≡ laidOut c o
+    laid words b₀ b₁ b₂ b₃ b₄ b₅ b₆ b₇ b₈ b₉ w e₀ e₁ e₂ e₃ e₄ e₅ e₆ e₇ e₈ e₉ =
+        let few : m ≤ relations = omega (arith, counts .tables) in
+        let f₀ : Front b 0 b₀ = subst (λ x. Front b 0 x) (sym e₀) (front-start b) in
+        let f₁ = front-blocks b f₀ m n (rowIn words n) b₁ few (omega arith) (row-part words w)
+        (e₁ ∙ ap₂ (λ (x y : ℕ). laidBlocks 0 (x + 2) y (rowIn words y) b₀) qt qn) in
+        let f₂ = front-blocks b f₁ m n (columnIn b₁ n) b₂ few (omega arith) (column-part b₁ columnsFrom f₁ (omega arith))
+        (e₂ ∙ ap₂ (λ (x y : ℕ). laidBlocks columnsFrom (x + 2) y (columnIn b₁ y) b₁) qt qn) in
+        let f₃ = front-from b f₂ m relations (loopsIn b₂ n) b₃ few (omega arith) (loops-part b₂ loopsFrom f₂ (omega arith))
+        (e₃ ∙ ap₂ (λ (x y : ℕ). laidFrom loopsFrom (x + 2) (loopsIn b₂ y) b₂) qt qn) in
+        let f₄ = front-from b f₃ (steps c) mostSteps _ b₄ (counts .steps) (omega arith) allowed-part
+        (e₄ ∙ ap₂ (λ (x y : ℕ). laidFrom allowedFrom x (λ z. allowedIn (c .people) y (getD (c .steps) z zeroStep .roles)) b₃) qs qn) in
+        let f₅ = front-from b f₄ mostSteps mostSteps _ b₅ (omega arith) (omega arith) named-part
+        (e₅ ∙ ap (λ (x : ℕ). laidFrom namedFrom mostSteps (namedIn (c .rules) x) b₄) qr) in
+        let f₆ = front-from b f₅ (steps c) mostSteps _ b₆ (counts .steps) (omega arith) before-part
+        (e₆ ∙ ap (λ (x : ℕ). laidFrom beforeFrom x (λ z. precedingIn (getD (c .steps) z zeroStep) o z) b₅) qs) in
+        let f₇ = front-from b f₆ (c .counts .rules) mostRules _ b₇ (counts .rules) (omega arith) rules-part
+        (e₇ ∙ ap (λ (x : ℕ). laidFrom rulesFrom x (λ i. packed (getD (c .rules) i zeroRule)) b₆) qr) in
+        let sets : 2 ^ steps c ≤ stepSets = sets-few (steps c) (counts .steps) in
+        let f₈ = front-from b f₇ (2 ^ steps c) stepSets (readyIn b₇ (steps c)) b₈ sets (omega arith) (ready-part b₇ readyFrom f₇ (omega arith))
+        (e₈ ∙ ap (λ (x : ℕ). laidFrom readyFrom (2 ^ x) (readyIn b₇ x) b₇) qs) in
+        let f₉ = front-from b f₈ (2 ^ steps c) stepSets (completeIn b₈ (c .counts .rules)) b₉ sets (omega arith)
+        (complete-part b₈ completeFrom f₈ (omega arith))
+        (e₉ ∙ ap₂ (λ (x y : ℕ). laidFrom completeFrom (2 ^ x) (completeIn b₈ y) b₈) qs qr) in
+        front-end b (laid-length c o) f₉

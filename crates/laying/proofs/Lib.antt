@@ -7,4 +7,5 @@ pub mod Rows
 pub mod Preceding
 pub mod OffRows
 pub mod OffSets
+pub mod SomeNamed
 pub mod Laying

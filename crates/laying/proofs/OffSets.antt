@@ -9,14 +9,14 @@ use lib.Dec.{ltb}
 use lib.ListN.{getD}
 use lib.Pow.{pow-mono}
 use Rattle.sets.specs.Lists.{pick, from, upto, all}
-use Rattle.sets.specs.Sets.{has, setOf, within, difference, everybody}
-use Rattle.sets.proofs.Lists.{and-true-end, upto-in, all-cong}
+use Rattle.sets.specs.Sets.{has, setOf, within, difference}
+use Rattle.sets.proofs.Lists.{and-true-end}
 use Rattle.sets.proofs.Bits.{has-low, has-lt}
 use Rattle.sets.proofs.Counting.{has-setOf, setOf-has, setOf-ext}
 use Rattle.sets.proofs.Listed.{within-mem, mem-within}
 use Rattle.cases.specs.Case.{mostSteps, mostRules}
-use Rattle.boards.specs.Board.{stepSets, rulesFrom, readyFrom, completeFrom, namedPlace, beforePlace}
-use Rattle.laying.specs.Parts.{readyIn, namingOnly, completeIn, Naming, Put}
+use Rattle.boards.specs.Board.{stepSets, rulesFrom, readyFrom, namedPlace, beforePlace}
+use Rattle.laying.specs.Parts.{readyIn, namingOnly, Naming, Put}
 use Rattle.laying.proofs.Tests.{same, and-assoc, all-next}
 use Rattle.laying.proofs.Writing.{from-below}
 
@@ -93,21 +93,6 @@ module _ (out l : List ℕ) (still : SameSets out l) (n f : ℕ) where
       setOf-ext _ _ mostSteps
       (λ s h. ap (λ (x : ℕ). ltb s n && (not (has f s) && within mostSteps x f)) (still (beforePlace s) (omega arith)))
 
-  complete-still : completeIn out n f ≡ completeIn l n f
-  unfolding completeIn namingOnly
-  complete-still =
-      setOf-ext _ _ mostRules
-      (λ i h. ap (λ (d : Bool). has (everybody mostRules n) i && d)
-      (all-cong _ _ (upto mostSteps)
-      (λ x m. let k = upto-in mostSteps x m in ap (λ (z : ℕ). has f x || not (has z i)) (still (namedPlace x) (omega arith)))))
-
 pub ready-next : (m n r : ℕ) {f : ℕ} {l out : List ℕ} → Put readyFrom m (readyIn l n) l f out → r ≡ readyIn out n f → r ≡ readyIn l n f
 ready-next m n r {f} {l} {out} g e =
     e ∙ ready-still out l (λ j b. ap (λ (x : List ℕ). getD x j 0) (g .so) ∙ from-below readyFrom (readyIn l n) f l j (omega arith)) n f
-
-pub complete-next : (m n used r : ℕ) {f : ℕ} {l out : List ℕ} → Put completeFrom m (completeIn l n) l f out → used ≡ everybody mostRules n
-    → r ≡ namingOnly out used f mostSteps → r ≡ completeIn l n f
-unfolding completeIn
-complete-next m n used r {f} {l} {out} g u e =
-    e ∙ ap (λ (x : ℕ). namingOnly out x f mostSteps) u
-    ∙ complete-still out l (λ j b. ap (λ (x : List ℕ). getD x j 0) (g .so) ∙ from-below completeFrom (completeIn l n) f l j (omega arith)) n f

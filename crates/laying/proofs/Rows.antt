@@ -23,7 +23,7 @@ most a b h g = mul-le-mul h g
 
 -- ---- a relation's row
 
-eqb-turned : (m n : ℕ) → eqb m n ≡ eqb n m
+pub eqb-turned : (m n : ℕ) → eqb m n ≡ eqb n m
 eqb-turned m n = go (ℕ-discrete m n)
   where
     go : Dec (m ≡ n) → eqb m n ≡ eqb n m

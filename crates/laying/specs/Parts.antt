@@ -5,7 +5,7 @@ use mathlib.Core.List.{List}
 use Prim.Native.Nat.{ℕ, zero, suc, _+_, _-_, _*_, _/_, _%_, _≤_, _<_}
 use lib.Dec.{eqb, leb, ltb}
 use lib.ListN.{length, getD}
-use Rattle.sets.specs.Lists.{pick, upto, all}
+use Rattle.sets.specs.Lists.{pick, upto, all, any}
 use Rattle.sets.specs.Sets.{has, setOf, meets, within, everybody}
 use Rattle.sets.specs.Stored.{width, setAt}
 use Rattle.words.specs.Part.{table}
@@ -30,9 +30,12 @@ rowIn words n k u = setOf (λ v. ltb v n && relatedIn words n k u v) width
 
 -- ---- What is read off the rows of a board, for n people
 
--- the people u whose row in relation k has v, and those whose row has themselves
+-- the people u whose row in relation k has v; the column of v, which is their row in the first two relations; the people whose row has themselves
+unfoldable pub gatheredIn : List ℕ → ℕ → ℕ → ℕ → ℕ
+gatheredIn b n k v = setOf (λ u. ltb u n && has (setAt b (rowPlace k u)) v) width
+
 unfoldable pub columnIn : List ℕ → ℕ → ℕ → ℕ → ℕ
-columnIn b n k v = setOf (λ u. ltb u n && has (setAt b (rowPlace k u)) v) width
+columnIn b n k v = pick (ltb k 2) (setAt b (rowPlace k v)) (gatheredIn b n k v)
 
 unfoldable pub loopsIn : List ℕ → ℕ → ℕ → ℕ
 loopsIn b n k = setOf (λ u. ltb u n && has (setAt b (rowPlace k u)) u) width
@@ -65,6 +68,10 @@ namingOnly b rules f n = setOf (λ i. has rules i && all (λ x. has f x || not (
 -- of n rules, those that name no step outside f
 unfoldable pub completeIn : List ℕ → ℕ → ℕ → ℕ
 completeIn b n f = namingOnly b (everybody mostRules n) f mostSteps
+
+-- the rules that name some step in g
+unfoldable pub namingSome : List ℕ → ℕ → ℕ
+namingSome b g = setOf (λ i. any (λ x. has g x && has (getD b (namedPlace x) 0) i) (upto mostSteps)) mostRules
 
 -- ---- A board with a part put onto it
 

@@ -17,23 +17,26 @@ use cases::StepEntry;
 use cases::with_step;
 use sets::People;
 use sets::holds;
+use sets::lowest_in;
 use sets::share;
 use sets::with;
 use sets::within;
+use sets::without;
 use words::both;
 use words::either;
 ghost use mathlib.Core.Path.{_≡_};
 ghost use Prim.Native.Nat.{_+_, _*_, _^_, _≤_, _<_};
+ghost use lib.Dec.{ltb};
 ghost use lib.ListN.{getD};
 ghost use Rattle.sets.specs.Lists.{pick};
-ghost use Rattle.sets.specs.Sets.{with, difference, everybody};
+ghost use Rattle.sets.specs.Sets.{with, joined, difference, everybody};
 ghost use Rattle.sets.specs.Stored.{width, number, noPeople};
 ghost use Rattle.words.specs.Part.{table};
 ghost use Rattle.cases.specs.Case.{mostPeople, mostSteps, mostTables, mostRules, zeroStep, zeroRule, entry};
-ghost use Rattle.boards.specs.Board.{relations, columnsFrom, loopsFrom, allowedFrom, namedFrom, beforeFrom, rulesFrom, readyFrom, completeFrom};
+ghost use Rattle.boards.specs.Board.{relations, stepSets, columnsFrom, loopsFrom, allowedFrom, namedFrom, beforeFrom, rulesFrom, readyFrom, completeFrom};
 ghost use Rattle.laying.specs.Laid.{packed, names, laidOut};
 ghost use Rattle.laying.specs.Ready.{Bounded};
-ghost use Rattle.laying.specs.Parts.{rowIn, columnIn, loopsIn, allowedIn, namedIn, precedingIn, readyIn, namingOnly, completeIn, laidFrom, laidBlocks};
+ghost use Rattle.laying.specs.Parts.{rowIn, gatheredIn, columnIn, loopsIn, allowedIn, namedIn, precedingIn, readyIn, namingOnly, completeIn, namingSome, laidFrom, laidBlocks};
 
 // In which order the steps are filled: as they are listed, or as the desk chooses among those whose preceding steps are filled.
 pub enum Order {
@@ -47,10 +50,10 @@ pub fn lay_out(c: Case, order: Order) -> [u32; PLACES]
     ensures { λ r. ⌜ r ≡ laidOut c order ⌝ }
 {
     let counts = c.counts;
-    let people = counts.people as u8;
-    let kinds = (counts.tables as u8) + 2;
-    let steps = counts.steps as u8;
-    let rules = counts.rules as u8;
+    let people = capped(counts.people as u8, Case::PEOPLE as u8);
+    let kinds = capped(counts.tables as u8, Case::TABLES as u8) + 2;
+    let steps = capped(counts.steps as u8, Case::STEPS as u8);
+    let rules = capped(counts.rules as u8, Case::RULES as u8);
     let held = c.people;
     let chain = c.steps;
     let listed = c.rules;
@@ -67,6 +70,14 @@ pub fn lay_out(c: Case, order: Order) -> [u32; PLACES]
     put_ready(&mut board, steps);
     put_complete(&mut board, steps, rules);
     board
+}
+
+// A count, which is within its limit: seen to be, so that no turn of a loop up to it tests its place.
+fn capped(n: u8, most: u8) -> u8
+    requires { ⌜ n ≤ most ⌝ }
+    ensures { λ r. ⌜ r ≡ n ⌝ }
+{
+    if n < most { n } else { most }
 }
 
 // The words of the first n table rows, 0 past them.
@@ -147,10 +158,21 @@ fn put_column(board: &mut [u32; PLACES], people: u8, k: u8)
     }
 }
 
-// The people whose row in relation k has v.
+// The column of person v in relation k: their row where the relation is the same both ways, as "same person" and "different person" are.
 fn column(board: &[u32; PLACES], people: u8, k: u8, v: u8) -> People
     requires { ⌜ people ≤ mostPeople ⌝ }
     ensures { λ r. ⌜ number r ≡ columnIn (now (board .entry)) people k v ⌝ }
+{
+    if k < 2 {
+        return People::at(board, (k as usize) * Case::PEOPLE + (v as usize));
+    }
+    gathered(board, people, k, v)
+}
+
+// The people whose row in relation k has v.
+fn gathered(board: &[u32; PLACES], people: u8, k: u8, v: u8) -> People
+    requires { ⌜ people ≤ mostPeople ⌝ }
+    ensures { λ r. ⌜ number r ≡ gatheredIn (now (board .entry)) people k v ⌝ }
 {
     let mut set = People::none();
     let mut u: u8 = 0;
@@ -323,9 +345,10 @@ fn ready(board: &[u32; PLACES], n: u8, f: u16) -> u8
     requires { ⌜ n ≤ mostSteps ⌝ }
     ensures { λ r. ⌜ r ≡ readyIn (now (board .entry)) n f ⌝ }
 {
+    let end = capped(n, Case::STEPS as u8);
     let mut set: u8 = 0;
     let mut s: u8 = 0;
-    while s < n {
+    while s < end {
         let before = board[BEFORE + (s as usize)] % (STEP_SETS as u32);
         set = with_step_if(set, s, both(!holds(f, s), within(before, f as u32)));
         s += 1;
@@ -333,19 +356,36 @@ fn ready(board: &[u32; PLACES], n: u8, f: u16) -> u8
     set
 }
 
-// For each set of the n steps the rules in use that name no other step.
+// For each set of the n steps the rules in use that name no other step: those that name none but the n, less those that name one not in the set.
 fn put_complete(board: &mut [u32; PLACES], n: u8, rules: u8)
     requires { ⌜ (n ≤ mostSteps) × (rules ≤ mostRules) ⌝ }
     ensures { λ _. ⌜ now (board .exit) ≡ laidFrom completeFrom (2 ^ n) (completeIn (now (board .entry)) rules) (now (board .entry)) ⌝ }
 {
     let used = first_rules(rules);
     let many: u16 = 1 << n;
+    let all = complete(board, used, many - 1);
+    let named = named_by(board, many);
     let mut f: u16 = 0;
     while f < many {
-        let set = complete(board, used, f);
-        board[COMPLETE + (f as usize)] = set;
+        board[COMPLETE + (f as usize)] = less(all, named[(many - 1 - f) as usize]);
         f += 1;
     }
+}
+
+// For each set of steps below `many` the rules that name one of them: its lowest, or another.
+fn named_by(board: &[u32; PLACES], many: u16) -> [u32; STEP_SETS]
+    requires { ⌜ (0 < many) × (many ≤ stepSets) ⌝ }
+    ensures { λ r. ⌜ r ≡ table (λ g. pick (ltb g many) (namingSome (now (board .entry)) g) 0) stepSets ⌝ }
+{
+    let mut out = [0u32; STEP_SETS];
+    let mut g: u16 = 1;
+    while g < many {
+        let s = lowest_in(g as u32);
+        let rest = without(g as u32, s);
+        out[g as usize] = joined(out[rest as usize], board[NAMED + (s as usize)]);
+        g += 1;
+    }
+    out
 }
 
 // The first n rules.
@@ -394,5 +434,19 @@ fn with_step_if(set: u8, s: u8, wanted: bool) -> u8
 fn less_unless(set: u32, gone: u32, stay: bool) -> u32
     ensures { λ r. ⌜ r ≡ pick stay set (difference mostRules set gone) ⌝ }
 {
-    if stay { set } else { set & !gone }
+    if stay { set } else { less(set, gone) }
+}
+
+// The set without those that are gone.
+fn less(set: u32, gone: u32) -> u32
+    ensures { λ r. ⌜ r ≡ difference mostRules set gone ⌝ }
+{
+    set & !gone
+}
+
+// The rules in either set.
+fn joined(a: u32, b: u32) -> u32
+    ensures { λ r. ⌜ r ≡ joined mostRules a b ⌝ }
+{
+    a | b
 }

@@ -52,7 +52,7 @@ loop-less c = omega arith
 loop-again : tie.Need-loop-again Inv-loop μ-loop
 loop-again c =
     put-step _ _ _ _ (c .before .before .before .before .loop .inv) (c .before .before .before .loop-test .taken) _ _ refl
-    (column-next _ _ _ _ _ (c .before .before .before .before .loop .inv) (omega arith) (omega arith) (omega arith) (c .word .ensures ∙ c .before .column .ensures))
+    (column-next _ _ _ _ _ (c .before .before .before .before .loop .inv) (omega arith) (omega arith) (omega arith) (c .before .before .before .loop-test .taken) (c .word .ensures ∙ c .before .column .ensures))
 
 returns : tie.Need-returns Inv-loop μ-loop
 returns c = put-end _ _ _ _ (c .before .loop .inv) (c .loop-test .left)

@@ -15,10 +15,16 @@ use Rattle.laying.proofs.ready.Statement.{statement}
 use Rattle.laying.proofs.ready.Tie as tie
 
 abbrev Inv-loop : tie.InvT-loop
-Inv-loop board n f set₀ s₀ set s = Collected (λ x. ltb x n && (not (has f x) && within mostSteps (getD board (beforePlace x) 0) f)) mostSteps s set
+Inv-loop board n f end set₀ s₀ set s = Collected (λ x. ltb x n && (not (has f x) && within mostSteps (getD board (beforePlace x) 0) f)) mostSteps s set
 
 abbrev μ-loop : tie.MeasureT-loop
-μ-loop board n f set₀ s₀ set s = n - s
+μ-loop board n f end set₀ s₀ set s = end - s
+
+cast-capped : tie.Need-cast-capped Inv-loop μ-loop
+cast-capped c = omega arith
+
+capped-requires : tie.Need-capped-requires Inv-loop μ-loop
+capped-requires c κs = search needs
 
 loop-holds : tie.Need-loop-holds Inv-loop μ-loop
 loop-holds c = among-start _ mostSteps _ _ refl
@@ -66,12 +72,13 @@ loop-again c =
     let holds = within .before in
     let test = holds .before .before in
     let loop = test .before in
-    among-step _ mostSteps _ (loop .loop .inv) (test .loop-test .taken) (omega arith) _ _
-    (ready-test (loop .before .args .board .now) _ _ _ _ _ (holds .holds .ensures) (within .within .ensures) (both .both .ensures)) (c .with-step-if .ensures)
+    let start = loop .before in
+    among-step _ mostSteps _ (loop .loop .inv) (omega (arith, test .loop-test .taken, start .capped .ensures)) (omega arith) _ _
+    (ready-test (start .before .args .board .now) _ _ _ _ _ (holds .holds .ensures) (within .within .ensures) (both .both .ensures)) (c .with-step-if .ensures)
 
 returns : tie.Need-returns Inv-loop μ-loop
 unfolding readyIn
-returns c = among-end _ mostSteps _ (c .before .loop .inv) (c .loop-test .left)
+returns c = among-end _ mostSteps _ (c .before .loop .inv) (omega (arith, c .loop-test .left, c .before .before .capped .ensures))
 
 pub ready-spec : {M : Type 1} → statement M
 ready-spec =
@@ -79,6 +86,8 @@ ready-spec =
     (tie.spec
     Inv-loop
     μ-loop
+    cast-capped
+    capped-requires
     loop-holds
     cast-before
     add-before
