@@ -1,11 +1,14 @@
 -- For every value of its arguments each public function has one outcome: two that its contract permits are the same. The lines stand in the order of the
 -- crates, each about the contract's own `Post`. Of a lent buffer that is what it holds at exit, of a returned part where it stands and its bytes.
--- (`plan_walk` is the one exception: docs/CONTRACTS.md says why.)
+-- (The exceptions: docs/CONTRACTS.md names them and says why.)
 use mathlib.Core.Path.{_≡_, refl, sym, ap, _∙_}
 use mathlib.Core.Option.{Option, none, some}
+use mathlib.Core.List.{List}
 use Prim.Native.Nat.{ℕ}
 use denote.Ref.{now}
-use Rattle.sets.specs.Stored.{stored, wideNumber, nextNumber, lowestNumber}
+use Rattle.sets.specs.Sets.{common}
+use Rattle.sets.specs.Stored.{width, number, stored, wideNumber, nextNumber, lowestNumber}
+use Rattle.sets.specs.declared.People.{People}
 use Rattle.sets.specs.declared.Wide.{Wide}
 use Rattle.sets.specs.declared.Wide.the-variants as wide
 use Rattle.sets.specs.declared.Next.{Next}
@@ -15,11 +18,24 @@ use Rattle.sets.specs.declared.Lowest.the-variants as lowest
 use Rattle.sets.proofs.Records.{stored-number, number-injective}
 use Rattle.games.specs.Limit.{Ended, limit, ended, Answer}
 use Rattle.cases.specs.declared.Person.{Person}
+use Rattle.cases.specs.declared.Filled.{Filled}
+use Rattle.boards.specs.Board.{fitsOn}
+use Rattle.lines.specs.declared.Cursor.{Cursor}
+use Rattle.lines.specs.declared.Try.{Try as Move}
+use Rattle.lines.specs.declared.Try.the-variants as move
+use Rattle.lines.specs.Moves.{tryOutcome as moveOutcome}
 use Rattle.tries.specs.declared.Verdict.{Verdict}
 use Rattle.tries.specs.declared.Verdict.the-variants as verdict
 use Rattle.tries.specs.declared.Advised.{Advised}
 use Rattle.tries.specs.declared.Advised.the-variants as advised
+use Rattle.tries.specs.declared.Line.{Line}
+use Rattle.tries.specs.declared.Try.{Try}
+use Rattle.tries.specs.declared.Try.the-variants as try
+use Rattle.tries.specs.declared.Spent.{Spent}
+use Rattle.tries.specs.declared.Spent.the-variants as spent
 use Rattle.tries.specs.Outcomes.{verdictOutcome, advisedOutcome}
+use Rattle.tries.specs.Trying.{stepOn, InLine, tryOutcome}
+use Rattle.tries.specs.Alike.{spentOutcome}
 use Rattle.files.specs.Parts.{seen}
 use Rattle.sets.proofs.People.none.Reads as people-none-reads
 use Rattle.sets.proofs.People.everybody.Reads as people-everybody-reads
@@ -29,6 +45,7 @@ use Rattle.sets.proofs.People.from_words.Reads as people-from-words-reads
 use Rattle.sets.proofs.People.low.Reads as people-low-reads
 use Rattle.sets.proofs.People.high.Reads as people-high-reads
 use Rattle.sets.proofs.People.at.Reads as people-at-reads
+use Rattle.sets.proofs.People.is_none.Reads as people-is-none-reads
 use Rattle.sets.proofs.People.has.Reads as people-has-reads
 use Rattle.sets.proofs.People.with.Reads as people-with-reads
 use Rattle.sets.proofs.People.without.Reads as people-without-reads
@@ -42,9 +59,12 @@ use Rattle.sets.proofs.People.past.Reads as people-past-reads
 use Rattle.sets.proofs.People.lowest.Reads as people-lowest-reads
 use Rattle.sets.proofs.People.before.Reads as people-before-reads
 use Rattle.sets.proofs.People.after.Reads as people-after-reads
+use Rattle.sets.proofs.People.from_on.Reads as people-from-on-reads
 use Rattle.sets.proofs.People.next.Reads as people-next-reads
 use Rattle.sets.proofs.holds.Reads as small-holds-reads
 use Rattle.sets.proofs.share.Reads as small-share-reads
+use Rattle.sets.proofs.within.Reads as small-within-reads
+use Rattle.sets.proofs.shared.Reads as small-shared-reads
 use Rattle.sets.proofs.size.Reads as small-size-reads
 use Rattle.sets.proofs.past.Reads as small-past-reads
 use Rattle.sets.proofs.lowest_in.Reads as small-lowest-in-reads
@@ -53,6 +73,10 @@ use Rattle.sets.proofs.without.Reads as small-without-reads
 use Rattle.cases.proofs.Position.start.Reads as position-start-reads
 use Rattle.cases.proofs.Position.person.Reads as position-person-reads
 use Rattle.cases.proofs.Position.placed.Reads as position-placed-reads
+use Rattle.cases.proofs.Filled.start.Reads as filled-start-reads
+use Rattle.cases.proofs.Filled.person.Reads as filled-person-reads
+use Rattle.cases.proofs.Filled.placed.Reads as filled-placed-reads
+use Rattle.cases.proofs.with_step.Reads as with-step-reads
 use Rattle.cases.proofs.Case.empty.Reads as case-empty-reads
 use Rattle.cases.proofs.everybody_if.Reads as everybody-if-reads
 use Rattle.words.proofs.byte_at.Reads as byte-at-reads
@@ -62,6 +86,8 @@ use Rattle.words.proofs.both.Reads as both-reads
 use Rattle.words.proofs.either.Reads as either-reads
 use Rattle.words.proofs.put_word.Reads as put-word-reads
 use Rattle.words.proofs.put_long.Reads as put-long-reads
+use Rattle.refusals.proofs.Judged.or_else.Reads as or-else-reads
+use Rattle.refusals.proofs.Judged.refused_if.Reads as refused-if-reads
 use Rattle.layout.proofs.steps_at.Reads as steps-at-reads
 use Rattle.layout.proofs.tables_at.Reads as tables-at-reads
 use Rattle.layout.proofs.rules_at.Reads as rules-at-reads
@@ -69,21 +95,8 @@ use Rattle.layout.proofs.rows.Reads as rows-reads
 use Rattle.layout.proofs.total.Reads as total-reads
 use Rattle.layout.proofs.start.Reads as part-start-reads
 use Rattle.layout.proofs.end.Reads as part-end-reads
-use Rattle.refusals.proofs.Judged.or_else.Reads as or-else-reads
-use Rattle.refusals.proofs.Judged.refused_if.Reads as refused-if-reads
 use Rattle.judging.proofs.judge_case.Reads as judge-case-reads
 use Rattle.judging.proofs.too_many.Reads as too-many-reads
-use Rattle.asking.proofs.judge_number.Reads as judge-number-reads
-use Rattle.asking.proofs.judge_position.Reads as judge-position-reads
-use Rattle.asking.proofs.judge_absent.Reads as judge-absent-reads
-use Rattle.boards.proofs.allowed.Reads as allowed-reads
-use Rattle.boards.proofs.fits.Reads as fits-reads
-use Rattle.laying.proofs.lay_out.Reads as lay-out-reads
-use Rattle.walks.proofs.dynamic_walk.Reads as dynamic-walk-reads
-use Rattle.walks.proofs.away_turn.Reads as away-turn-reads
-use Rattle.plans.proofs.static_walk.Reads as static-walk-reads
-use Rattle.walks.proofs.one_shot_walk.Reads as one-shot-walk-reads
-use Rattle.walks.proofs.advice_walk.Reads as advice-walk-reads
 use Rattle.files.proofs.judge.Reads as judge-reads
 use Rattle.files.proofs.read.Reads as read-reads
 use Rattle.files.proofs.people_part.Reads as people-part-reads
@@ -91,6 +104,32 @@ use Rattle.files.proofs.steps_part.Reads as steps-part-reads
 use Rattle.files.proofs.tables_part.Reads as tables-part-reads
 use Rattle.files.proofs.rules_part.Reads as rules-part-reads
 use Rattle.writing.proofs.write.Reads as write-reads
+use Rattle.boards.proofs.allowed.Reads as allowed-reads
+use Rattle.boards.proofs.ready.Reads as ready-reads
+use Rattle.boards.proofs.settled.Reads as settled-reads
+use Rattle.boards.proofs.fits.Reads as fits-reads
+use Rattle.boards.proofs.due.Reads as due-reads
+use Rattle.laying.proofs.lay_out.Reads as lay-out-reads
+use Rattle.lines.proofs.Lines.none.Reads as lines-none-reads
+use Rattle.lines.proofs.Lines.with.Reads as lines-with-reads
+use Rattle.lines.proofs.next_move.Reads as next-move-reads
+use Rattle.tries.proofs.next_step.Reads as next-step-reads
+use Rattle.tries.proofs.line_up.Reads as line-up-reads
+use Rattle.tries.proofs.next_try.Reads as next-try-reads
+use Rattle.tries.proofs.behind.Reads as behind-reads
+use Rattle.tries.proofs.without.Reads as line-without-reads
+use Rattle.tries.proofs.rest_alike.Reads as rest-alike-reads
+use Rattle.tries.proofs.all_bad.Reads as all-bad-reads
+use Rattle.tries.proofs.all_good.Reads as all-good-reads
+use Rattle.plans.proofs.static_walk.Reads as static-walk-reads
+use Rattle.walks.proofs.dynamic_walk.Reads as dynamic-walk-reads
+use Rattle.walks.proofs.advice_walk.Reads as advice-walk-reads
+use Rattle.walks.proofs.away_turn.Reads as away-turn-reads
+use Rattle.walks.proofs.one_shot_walk.Reads as one-shot-walk-reads
+use Rattle.asking.proofs.judge_number.Reads as judge-number-reads
+use Rattle.asking.proofs.judge_position.Reads as judge-position-reads
+use Rattle.asking.proofs.filled.Reads as filled-reads
+use Rattle.asking.proofs.judge_absent.Reads as judge-absent-reads
 use Rattle.planner.proofs.plan.Reads as plan-reads
 use Rattle.planner.proofs.static_verdict.Reads as static-verdict-reads
 use Rattle.planner.proofs.decremental_verdict.Reads as decremental-verdict-reads
@@ -98,6 +137,12 @@ use Rattle.planner.proofs.one_shot_verdict.Reads as one-shot-verdict-reads
 use Rattle.planner.proofs.dynamic_verdict.Reads as dynamic-verdict-reads
 use Rattle.planner.proofs.advice.Reads as advice-reads
 use Rattle.planner.proofs.away.Reads as away-reads
+use Rattle.planner.proofs.plan_ready.Reads as plan-ready-reads
+use Rattle.planner.proofs.plan_laid.Reads as plan-laid-reads
+use Rattle.planner.proofs.ask_ready.Reads as ask-ready-reads
+use Rattle.planner.proofs.ask_laid.Reads as ask-laid-reads
+use Rattle.planner.proofs.advise_ready.Reads as advise-ready-reads
+use Rattle.planner.proofs.away_ready.Reads as away-ready-reads
 use Rattle.telling.proofs.tell.Reads as tell-reads
 use Rattle.telling.proofs.text.Text.empty.Reads as text-empty-reads
 use Rattle.telling.proofs.text.Text.put_byte.Reads as text-put-byte-reads
@@ -180,6 +225,55 @@ advised-same l r s e = sym (back r) ∙ ap (λ (a : Answer (Option ℕ)). advise
     back (advised.Nobody n) = refl
     back (advised.Person v n) = refl
 
+abbrev spent-back : Option ℕ → Spent
+spent-back none = spent.Limit
+spent-back (some c) = spent.All c
+
+spent-same : (r s : Spent) → spentOutcome r ≡ spentOutcome s → r ≡ s
+spent-same r s e = sym (back r) ∙ ap spent-back e ∙ back s
+  where
+    back : (x : Spent) → spent-back (spentOutcome x) ≡ x
+    back spent.Limit = refl
+    back (spent.All c) = refl
+
+abbrev try-back : Option (Option ℕ × ℕ) → Try
+try-back none = try.Limit
+try-back (some (none, c)) = try.Nobody c
+try-back (some (some v, c)) = try.Person (record { 0 = v }) c
+
+try-same : (r s : Try) → tryOutcome r ≡ tryOutcome s → r ≡ s
+try-same r s e = sym (back r) ∙ ap try-back e ∙ back s
+  where
+    back : (x : Try) → try-back (tryOutcome x) ≡ x
+    back try.Limit = refl
+    back (try.Nobody c) = refl
+    back (try.Person v c) = refl
+
+abbrev move-back : Option (Option Cursor × ℕ) → Move
+move-back none = move.Limit
+move-back (some (none, c)) = move.Nobody c
+move-back (some (some m, c)) = move.Move m c
+
+move-same : (r s : Move) → moveOutcome r ≡ moveOutcome s → r ≡ s
+move-same r s e = sym (back r) ∙ ap move-back e ∙ back s
+  where
+    back : (x : Move) → move-back (moveOutcome x) ≡ x
+    back move.Limit = refl
+    back (move.Nobody c) = refl
+    back (move.Move m c) = refl
+
+-- a line is its two sets
+line-same : (r s : Line) → number (r .tried) ≡ number (s .tried) → number (r .fit) ≡ number (s .fit) → r ≡ s
+line-same r s e f =
+    ap (λ (T : People). record { tried = T; fit = r .fit }) (number-injective (r .tried) (s .tried) e)
+    ∙ ap (λ (F : People). record { tried = s .tried; fit = F }) (number-injective (r .fit) (s .fit) f)
+
+in-line-same : (b : List ℕ) (n A : ℕ) (f : Filled) (r s : Line) → InLine b n A f (number (r .tried)) (number (r .fit)) → InLine b n A f (number (s .tried)) (number (s .fit)) → r ≡ s
+in-line-same b n A f r s p q = line-same r s same (p .fit ∙ ap (λ (T : ℕ). common width T (fitsOn b f (stepOn b f))) same ∙ sym (q .fit))
+  where
+    same : number (r .tried) ≡ number (s .tried)
+    same = p .tried ∙ sym (q .tried)
+
 -- ---- `sets`: Sets
 
 pub people-none-one : (κs : _) (args : _) (r s : _) (x y : _) → people-none-reads.Post κs args r x → people-none-reads.Post κs args s y → r ≡ s
@@ -205,6 +299,9 @@ people-high-one κs args r s x y p q = p ∙ sym q
 
 pub people-at-one : (κs : _) (args : _) (r s : _) (x y : _) → people-at-reads.Post κs args r x → people-at-reads.Post κs args s y → r ≡ s
 people-at-one κs args r s x y p q = number-injective r s (p ∙ sym q)
+
+pub people-is-none-one : (κs : _) (args : _) (r s : _) (x y : _) → people-is-none-reads.Post κs args r x → people-is-none-reads.Post κs args s y → r ≡ s
+people-is-none-one κs args r s x y p q = p ∙ sym q
 
 pub people-has-one : (κs : _) (args : _) (r s : _) (x y : _) → people-has-reads.Post κs args r x → people-has-reads.Post κs args s y → r ≡ s
 people-has-one κs args r s x y p q = p ∙ sym q
@@ -245,6 +342,9 @@ people-before-one κs args r s x y p q = p ∙ sym q
 pub people-after-one : (κs : _) (args : _) (r s : _) (x y : _) → people-after-reads.Post κs args r x → people-after-reads.Post κs args s y → r ≡ s
 people-after-one κs args r s x y p q = number-injective r s (p ∙ sym q)
 
+pub people-from-on-one : (κs : _) (args : _) (r s : _) (x y : _) → people-from-on-reads.Post κs args r x → people-from-on-reads.Post κs args s y → r ≡ s
+people-from-on-one κs args r s x y p q = number-injective r s (p ∙ sym q)
+
 pub people-next-one : (κs : _) (args : _) (r s : _) (x y : _) → people-next-reads.Post κs args r x → people-next-reads.Post κs args s y → r ≡ s
 people-next-one κs args r s x y p q = next-same r s (p ∙ sym q)
 
@@ -253,6 +353,12 @@ small-holds-one κs args r s x y p q = p ∙ sym q
 
 pub small-share-one : (κs : _) (args : _) (r s : _) (x y : _) → small-share-reads.Post κs args r x → small-share-reads.Post κs args s y → r ≡ s
 small-share-one κs args r s x y p q = p ∙ sym q
+
+pub small-within-one : (κs : _) (args : _) (r s : _) (x y : _) → small-within-reads.Post κs args r x → small-within-reads.Post κs args s y → r ≡ s
+small-within-one κs args r s x y p q = p ∙ sym q
+
+pub small-shared-one : (κs : _) (args : _) (r s : _) (x y : _) → small-shared-reads.Post κs args r x → small-shared-reads.Post κs args s y → r ≡ s
+small-shared-one κs args r s x y p q = p ∙ sym q
 
 pub small-size-one : (κs : _) (args : _) (r s : _) (x y : _) → small-size-reads.Post κs args r x → small-size-reads.Post κs args s y → r ≡ s
 small-size-one κs args r s x y p q = p ∙ sym q
@@ -279,6 +385,18 @@ position-person-one κs args r s x y p q = ap (λ (v : ℕ). record { 0 = v }) (
 
 pub position-placed-one : (κs : _) (args : _) (r s : _) (x y : _) → position-placed-reads.Post κs args r x → position-placed-reads.Post κs args s y → r ≡ s
 position-placed-one κs args r s x y p q = p .0 ∙ sym (q .0)
+
+pub filled-start-one : (κs : _) (args : _) (r s : _) (x y : _) → filled-start-reads.Post κs args r x → filled-start-reads.Post κs args s y → r ≡ s
+filled-start-one κs args r s x y p q = p ∙ sym q
+
+pub filled-person-one : (κs : _) (args : _) (r s : _) (x y : _) → filled-person-reads.Post κs args r x → filled-person-reads.Post κs args s y → r ≡ s
+filled-person-one κs args r s x y p q = ap (λ (v : ℕ). record { 0 = v }) (p ∙ sym q)
+
+pub filled-placed-one : (κs : _) (args : _) (r s : _) (x y : _) → filled-placed-reads.Post κs args r x → filled-placed-reads.Post κs args s y → r ≡ s
+filled-placed-one κs args r s x y p q = p ∙ sym q
+
+pub with-step-one : (κs : _) (args : _) (r s : _) (x y : _) → with-step-reads.Post κs args r x → with-step-reads.Post κs args s y → r ≡ s
+with-step-one κs args r s x y p q = p ∙ sym q
 
 pub case-empty-one : (κs : _) (args : _) (r s : _) (x y : _) → case-empty-reads.Post κs args r x → case-empty-reads.Post κs args s y → r ≡ s
 case-empty-one κs args r s x y p q = p ∙ sym q
@@ -309,6 +427,14 @@ put-word-one κs args r s x y p q = p ∙ sym q
 pub put-long-one : (κs : _) (args : _) (r s : _) (x y : _) → put-long-reads.Post κs args r x → put-long-reads.Post κs args s y → now (x .0) ≡ now (y .0)
 put-long-one κs args r s x y p q = p ∙ sym q
 
+-- ---- `refusals`: Judgements
+
+pub or-else-one : (κs : _) (args : _) (r s : _) (x y : _) → or-else-reads.Post κs args r x → or-else-reads.Post κs args s y → r ≡ s
+or-else-one κs args r s x y p q = p ∙ sym q
+
+pub refused-if-one : (κs : _) (args : _) (r s : _) (x y : _) → refused-if-reads.Post κs args r x → refused-if-reads.Post κs args s y → r ≡ s
+refused-if-one κs args r s x y p q = p ∙ sym q
+
 -- ---- `layout`: Where the parts of a file stand
 
 pub steps-at-one : (κs : _) (args : _) (r s : _) (x y : _) → steps-at-reads.Post κs args r x → steps-at-reads.Post κs args s y → r ≡ s
@@ -332,14 +458,6 @@ part-start-one κs args r s x y p q = p ∙ sym q
 pub part-end-one : (κs : _) (args : _) (r s : _) (x y : _) → part-end-reads.Post κs args r x → part-end-reads.Post κs args s y → r ≡ s
 part-end-one κs args r s x y p q = p ∙ sym q
 
--- ---- `refusals`: Judgements
-
-pub or-else-one : (κs : _) (args : _) (r s : _) (x y : _) → or-else-reads.Post κs args r x → or-else-reads.Post κs args s y → r ≡ s
-or-else-one κs args r s x y p q = p ∙ sym q
-
-pub refused-if-one : (κs : _) (args : _) (r s : _) (x y : _) → refused-if-reads.Post κs args r x → refused-if-reads.Post κs args s y → r ≡ s
-refused-if-one κs args r s x y p q = p ∙ sym q
-
 -- ---- `judging`: A case in memory
 
 pub judge-case-one : (κs : _) (args : _) (r s : _) (x y : _) → judge-case-reads.Post κs args r x → judge-case-reads.Post κs args s y → r ≡ s
@@ -347,47 +465,6 @@ judge-case-one κs args r s x y p q = p ∙ sym q
 
 pub too-many-one : (κs : _) (args : _) (r s : _) (x y : _) → too-many-reads.Post κs args r x → too-many-reads.Post κs args s y → r ≡ s
 too-many-one κs args r s x y p q = p ∙ sym q
-
--- ---- `asking`: What a question is asked with
-
-pub judge-number-one : (κs : _) (args : _) (r s : _) (x y : _) → judge-number-reads.Post κs args r x → judge-number-reads.Post κs args s y → r ≡ s
-judge-number-one κs args r s x y p q = p ∙ sym q
-
-pub judge-position-one : (κs : _) (args : _) (r s : _) (x y : _) → judge-position-reads.Post κs args r x → judge-position-reads.Post κs args s y → r ≡ s
-judge-position-one κs args r s x y p q = p ∙ sym q
-
-pub judge-absent-one : (κs : _) (args : _) (r s : _) (x y : _) → judge-absent-reads.Post κs args r x → judge-absent-reads.Post κs args s y → r ≡ s
-judge-absent-one κs args r s x y p q = p ∙ sym q
-
--- ---- `boards`: The board
-
-pub allowed-one : (κs : _) (args : _) (r s : _) (x y : _) → allowed-reads.Post κs args r x → allowed-reads.Post κs args s y → r ≡ s
-allowed-one κs args r s x y p q = number-injective r s (p ∙ sym q)
-
-pub fits-one : (κs : _) (args : _) (r s : _) (x y : _) → fits-reads.Post κs args r x → fits-reads.Post κs args s y → r ≡ s
-fits-one κs args r s x y p q = number-injective r s (p ∙ sym q)
-
--- ---- `laying`: A case laid out
-
-pub lay-out-one : (κs : _) (args : _) (r s : _) (x y : _) → lay-out-reads.Post κs args r x → lay-out-reads.Post κs args s y → r ≡ s
-lay-out-one κs args r s x y p q = p ∙ sym q
-
--- ---- `walks`: The searches
-
-pub dynamic-walk-one : (κs : _) (args : _) (r s : _) (x y : _) → dynamic-walk-reads.Post κs args r x → dynamic-walk-reads.Post κs args s y → r ≡ s
-dynamic-walk-one κs args r s x y p q = verdict-same _ r s (p ∙ sym q)
-
-pub away-turn-one : (κs : _) (args : _) (r s : _) (x y : _) → away-turn-reads.Post κs args r x → away-turn-reads.Post κs args s y → r ≡ s
-away-turn-one κs args r s x y p q = verdict-same _ r s (p ∙ sym q)
-
-pub static-walk-one : (κs : _) (args : _) (r s : _) (x y : _) → static-walk-reads.Post κs args r x → static-walk-reads.Post κs args s y → r ≡ s
-static-walk-one κs args r s x y p q = verdict-same _ r s (p ∙ sym q)
-
-pub one-shot-walk-one : (κs : _) (args : _) (r s : _) (x y : _) → one-shot-walk-reads.Post κs args r x → one-shot-walk-reads.Post κs args s y → r ≡ s
-one-shot-walk-one κs args r s x y p q = verdict-same _ r s (p ∙ sym q)
-
-pub advice-walk-one : (κs : _) (args : _) (r s : _) (x y : _) → advice-walk-reads.Post κs args r x → advice-walk-reads.Post κs args s y → r ≡ s
-advice-walk-one κs args r s x y p q = advised-same _ r s (p ∙ sym q)
 
 -- ---- `files`: Files
 
@@ -414,6 +491,98 @@ rules-part-one κs args r s x y p q = p ∙ sym q
 pub write-one : (κs : _) (args : _) (r s : _) (x y : _) → write-reads.Post κs args r x → write-reads.Post κs args s y → (r ≡ s) × (now (x .1 .0) ≡ now (y .1 .0))
 write-one κs args r s x y p q = (p .0 ∙ sym (q .0), p .1 ∙ sym (q .1))
 
+-- ---- `boards`: The board
+
+pub allowed-one : (κs : _) (args : _) (r s : _) (x y : _) → allowed-reads.Post κs args r x → allowed-reads.Post κs args s y → r ≡ s
+allowed-one κs args r s x y p q = number-injective r s (p ∙ sym q)
+
+pub ready-one : (κs : _) (args : _) (r s : _) (x y : _) → ready-reads.Post κs args r x → ready-reads.Post κs args s y → r ≡ s
+ready-one κs args r s x y p q = p ∙ sym q
+
+pub settled-one : (κs : _) (args : _) (r s : _) (x y : _) → settled-reads.Post κs args r x → settled-reads.Post κs args s y → r ≡ s
+settled-one κs args r s x y p q = p ∙ sym q
+
+pub fits-one : (κs : _) (args : _) (r s : _) (x y : _) → fits-reads.Post κs args r x → fits-reads.Post κs args s y → r ≡ s
+fits-one κs args r s x y p q = number-injective r s (p ∙ sym q)
+
+pub due-one : (κs : _) (args : _) (r s : _) (x y : _) → due-reads.Post κs args r x → due-reads.Post κs args s y → r ≡ s
+due-one κs args r s x y p q = p ∙ sym q
+
+-- ---- `laying`: A case laid out
+
+pub lay-out-one : (κs : _) (args : _) (r s : _) (x y : _) → lay-out-reads.Post κs args r x → lay-out-reads.Post κs args s y → r ≡ s
+lay-out-one κs args r s x y p q = p ∙ sym q
+
+-- ---- `lines`: The moves at a position
+
+pub lines-none-one : (κs : _) (args : _) (r s : _) (x y : _) → lines-none-reads.Post κs args r x → lines-none-reads.Post κs args s y → r ≡ s
+lines-none-one κs args r s x y p q = p ∙ sym q
+
+pub lines-with-one : (κs : _) (args : _) (r s : _) (x y : _) → lines-with-reads.Post κs args r x → lines-with-reads.Post κs args s y → r ≡ s
+lines-with-one κs args r s x y p q = p ∙ sym q
+
+pub next-move-one : (κs : _) (args : _) (r s : _) (x y : _) → next-move-reads.Post κs args r x → next-move-reads.Post κs args s y → r ≡ s
+next-move-one κs args r s x y p q = move-same r s (p ∙ sym q)
+
+-- ---- `tries`: What the searches share
+
+pub next-step-one : (κs : _) (args : _) (r s : _) (x y : _) → next-step-reads.Post κs args r x → next-step-reads.Post κs args s y → r ≡ s
+next-step-one κs args r s x y p q = ap (λ (v : ℕ). record { 0 = v }) (p ∙ sym q)
+
+pub line-up-one : (κs : _) (args : _) (r s : _) (x y : _) → line-up-reads.Post κs args r x → line-up-reads.Post κs args s y → r ≡ s
+line-up-one κs args r s x y p q = in-line-same _ _ _ _ r s p q
+
+pub next-try-one : (κs : _) (args : _) (r s : _) (x y : _) → next-try-reads.Post κs args r x → next-try-reads.Post κs args s y → r ≡ s
+next-try-one κs args r s x y p q = try-same r s (p ∙ sym q)
+
+pub behind-one : (κs : _) (args : _) (r s : _) (x y : _) → behind-reads.Post κs args r x → behind-reads.Post κs args s y → r ≡ s
+behind-one κs args r s x y p q = line-same r s (p .0 ∙ sym (q .0)) (p .1 ∙ sym (q .1))
+
+pub line-without-one : (κs : _) (args : _) (r s : _) (x y : _) → line-without-reads.Post κs args r x → line-without-reads.Post κs args s y → r ≡ s
+line-without-one κs args r s x y p q = line-same r s (p .0 ∙ sym (q .0)) (p .1 ∙ sym (q .1))
+
+pub rest-alike-one : (κs : _) (args : _) (r s : _) (x y : _) → rest-alike-reads.Post κs args r x → rest-alike-reads.Post κs args s y → r ≡ s
+rest-alike-one κs args r s x y p q = spent-same r s (p ∙ sym q)
+
+pub all-bad-one : (κs : _) (args : _) (r s : _) (x y : _) → all-bad-reads.Post κs args r x → all-bad-reads.Post κs args s y → r ≡ s
+all-bad-one κs args r s x y p q = verdict-same _ r s (p ∙ sym q)
+
+pub all-good-one : (κs : _) (args : _) (r s : _) (x y : _) → all-good-reads.Post κs args r x → all-good-reads.Post κs args s y → r ≡ s
+all-good-one κs args r s x y p q = verdict-same _ r s (p ∙ sym q)
+
+-- ---- `plans`: The searches for a plan
+
+pub static-walk-one : (κs : _) (args : _) (r s : _) (x y : _) → static-walk-reads.Post κs args r x → static-walk-reads.Post κs args s y → r ≡ s
+static-walk-one κs args r s x y p q = verdict-same _ r s (p ∙ sym q)
+
+-- ---- `walks`: The searches against absences round by round
+
+pub dynamic-walk-one : (κs : _) (args : _) (r s : _) (x y : _) → dynamic-walk-reads.Post κs args r x → dynamic-walk-reads.Post κs args s y → r ≡ s
+dynamic-walk-one κs args r s x y p q = verdict-same _ r s (p ∙ sym q)
+
+pub advice-walk-one : (κs : _) (args : _) (r s : _) (x y : _) → advice-walk-reads.Post κs args r x → advice-walk-reads.Post κs args s y → r ≡ s
+advice-walk-one κs args r s x y p q = advised-same _ r s (p ∙ sym q)
+
+pub away-turn-one : (κs : _) (args : _) (r s : _) (x y : _) → away-turn-reads.Post κs args r x → away-turn-reads.Post κs args s y → r ≡ s
+away-turn-one κs args r s x y p q = verdict-same _ r s (p ∙ sym q)
+
+pub one-shot-walk-one : (κs : _) (args : _) (r s : _) (x y : _) → one-shot-walk-reads.Post κs args r x → one-shot-walk-reads.Post κs args s y → r ≡ s
+one-shot-walk-one κs args r s x y p q = verdict-same _ r s (p ∙ sym q)
+
+-- ---- `asking`: What a question is asked with
+
+pub judge-number-one : (κs : _) (args : _) (r s : _) (x y : _) → judge-number-reads.Post κs args r x → judge-number-reads.Post κs args s y → r ≡ s
+judge-number-one κs args r s x y p q = p ∙ sym q
+
+pub judge-position-one : (κs : _) (args : _) (r s : _) (x y : _) → judge-position-reads.Post κs args r x → judge-position-reads.Post κs args s y → r ≡ s
+judge-position-one κs args r s x y p q = p ∙ sym q
+
+pub filled-one : (κs : _) (args : _) (r s : _) (x y : _) → filled-reads.Post κs args r x → filled-reads.Post κs args s y → r ≡ s
+filled-one κs args r s x y p q = p ∙ sym q
+
+pub judge-absent-one : (κs : _) (args : _) (r s : _) (x y : _) → judge-absent-reads.Post κs args r x → judge-absent-reads.Post κs args s y → r ≡ s
+judge-absent-one κs args r s x y p q = p ∙ sym q
+
 -- ---- `planner`: The public calls
 
 pub plan-one : (κs : _) (args : _) (r s : _) (x y : _) → plan-reads.Post κs args r x → plan-reads.Post κs args s y → r ≡ s
@@ -436,6 +605,24 @@ advice-one κs args r s x y p q = p ∙ sym q
 
 pub away-one : (κs : _) (args : _) (r s : _) (x y : _) → away-reads.Post κs args r x → away-reads.Post κs args s y → r ≡ s
 away-one κs args r s x y p q = p ∙ sym q
+
+pub plan-ready-one : (κs : _) (args : _) (r s : _) (x y : _) → plan-ready-reads.Post κs args r x → plan-ready-reads.Post κs args s y → r ≡ s
+plan-ready-one κs args r s x y p q = p ∙ sym q
+
+pub plan-laid-one : (κs : _) (args : _) (r s : _) (x y : _) → plan-laid-reads.Post κs args r x → plan-laid-reads.Post κs args s y → r ≡ s
+plan-laid-one κs args r s x y p q = p ∙ sym q
+
+pub ask-ready-one : (κs : _) (args : _) (r s : _) (x y : _) → ask-ready-reads.Post κs args r x → ask-ready-reads.Post κs args s y → r ≡ s
+ask-ready-one κs args r s x y p q = p ∙ sym q
+
+pub ask-laid-one : (κs : _) (args : _) (r s : _) (x y : _) → ask-laid-reads.Post κs args r x → ask-laid-reads.Post κs args s y → r ≡ s
+ask-laid-one κs args r s x y p q = p ∙ sym q
+
+pub advise-ready-one : (κs : _) (args : _) (r s : _) (x y : _) → advise-ready-reads.Post κs args r x → advise-ready-reads.Post κs args s y → r ≡ s
+advise-ready-one κs args r s x y p q = p ∙ sym q
+
+pub away-ready-one : (κs : _) (args : _) (r s : _) (x y : _) → away-ready-reads.Post κs args r x → away-ready-reads.Post κs args s y → r ≡ s
+away-ready-one κs args r s x y p q = p ∙ sym q
 
 -- ---- `telling`: The program's text
 
