@@ -23,6 +23,7 @@ unfoldable pub putOn : Filled → ℕ → ℕ → Filled
 putOn p u s = placedAt p s (record { 0 = u })
 
 module _ (b : List ℕ) (n : ℕ) where
+  -- for n people: a person's moves are the ready steps that they may do, ascending; a move leaves a position where the person fits
   abbrev pub boardArena : Arena
   boardArena =
       record {

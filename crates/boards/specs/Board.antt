@@ -120,7 +120,7 @@ module _ (b : List ℕ) where
   completeOn f = getD b (completePlace f) 0
 
   module _ (p : Filled) where
-    -- the steps that may be filled next
+    -- the steps that may be filled next; of both sets of steps only the bits of steps are read
     unfoldable pub readyOn : ℕ
     readyOn = getD b (readyPlace (p .steps % stepSets)) 0 % stepSets
 
@@ -133,7 +133,7 @@ module _ (b : List ℕ) where
       unfoldable pub dueOn : ℕ
       dueOn = common mostRules (namedOn s) fullOn
 
-      -- no rule that names s waits for a later step: whoever fills s, no later test asks
+      -- no rule that names s waits for a later step; on a board that is well laid no later test then asks who fills s
       unfoldable pub settledOn : Bool
       settledOn = within mostRules (namedOn s) fullOn
 

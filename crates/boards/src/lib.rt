@@ -67,7 +67,7 @@ pub fn ready(board: &[u32; PLACES], p: Filled) -> u8
     (number_at(board, READY + (filled as usize)) % (STEP_SETS as u32)) as u8
 }
 
-// Does no rule that names step s wait for a later step? Then whoever fills s, no later test asks.
+// Does no rule that names step s wait for a later step? On a board that is well laid no later test then asks who fills s.
 pub fn settled(board: &[u32; PLACES], p: Filled, s: Step) -> bool
     ensures { λ r. ⌜ r ≡ settledOn (now (board .entry)) p (s .0) ⌝ }
 {

@@ -1,4 +1,4 @@
--- The laws of laying out, and that the board means the case.
+-- The laws of laying out: the parts, put one after the other, are the board of the case.
 pub mod Places
 pub mod Tests
 pub mod Writing

@@ -57,6 +57,7 @@ module _ (c : Case) where
   preceding order.Listed s = setOf (λ x. ltb x s) mostSteps
   preceding order.Chosen s = entry zeroStep (steps c) (c .steps) s .before
 
+  -- the same, none for a step that the case does not have
   unfoldable pub beforeOf : Order → ℕ → ℕ
   beforeOf o s = pick (ltb s (steps c)) (preceding o s) 0
 

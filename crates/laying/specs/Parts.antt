@@ -25,12 +25,13 @@ relatedIn words n zero u v = eqb u v
 relatedIn words n (suc zero) u v = not (eqb u v)
 relatedIn words n (suc (suc k)) u v = has (setAt words (k * n + u)) v
 
+-- of n people those v with (u, v) in relation k
 unfoldable pub rowIn : List ℕ → ℕ → ℕ → ℕ → ℕ
 rowIn words n k u = setOf (λ v. ltb v n && relatedIn words n k u v) width
 
 -- ---- What is read off the rows of a board, for n people
 
--- the people u whose row in relation k has v; the column of v, which is their row in the first two relations; the people whose row has themselves
+-- the people u whose row in relation k has v; the column of v, which in the first two relations is v's own row; the people whose row has themselves
 unfoldable pub gatheredIn : List ℕ → ℕ → ℕ → ℕ → ℕ
 gatheredIn b n k v = setOf (λ u. ltb u n && has (setAt b (rowPlace k u)) v) width
 
@@ -55,7 +56,7 @@ abbrev pub precedingIn : StepEntry → Order → ℕ → ℕ
 precedingIn step order.Listed s = setOf (λ x. ltb x s) mostSteps
 precedingIn step order.Chosen s = step .before
 
--- ---- What is read off the sets of a board that stand before it, for a set f of steps
+-- ---- What is read off the parts `named` and `before` of a board, for a set f of steps
 
 -- of n steps, those that are not in f, where those that must precede them are
 unfoldable pub readyIn : List ℕ → ℕ → ℕ → ℕ

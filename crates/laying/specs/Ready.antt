@@ -1,4 +1,4 @@
--- What a case must give for the board to mean it: counts within their limits, and rules whose form, relation and step exist. A good case does.
+-- What a case must give for the board to mean it: counts within their limits, and rules of a form up to 3 whose relation and step exist. A good case does.
 use Prim.Native.Nat.{ℕ, _+_, _≤_, _<_}
 use lib.ListN.{getD}
 use Rattle.cases.specs.declared.Counts.{Counts}

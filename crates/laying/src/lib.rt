@@ -1,5 +1,6 @@
 // Lays a case out as a board, once before a search. It knows what a case means and what stands where on a board; the searches know neither.
-// Each part is put onto the lent board by a function of its own that is lent what it reads; its loops end at the case's counts.
+// Each part is put onto the lent board by a function of its own, which takes what it reads and no case. Loops end at the case's counts, but for the two
+// over all steps (`put_named`, `complete`).
 use boards::ALLOWED;
 use boards::BEFORE;
 use boards::COLUMNS;
@@ -257,7 +258,7 @@ fn put_named(board: &mut [u32; PLACES], rules: [Rule; Case::RULES], n: u8)
     }
 }
 
-// The first n rules that name step s.
+// Of the first n rules those that name step s.
 fn named(rules: [Rule; Case::RULES], n: u8, s: u8) -> u32
     requires { ⌜ n ≤ mostRules ⌝ }
     ensures { λ r. ⌜ r ≡ namedIn rules n s ⌝ }

@@ -1,5 +1,5 @@
-// The public face: every call judges what it is given, and refuses or answers. No call has a `requires`: every value of every argument gets an
-// answer, and the contract fixes all of it.
+// The public face: every call judges what it is given, and refuses or answers. The seven calls have no `requires`: every value of every argument gets
+// an answer, and the contract fixes all of it. The calls `.._ready` and `.._laid` stand inside them, for what is judged or laid out already.
 //
 // The answers hold all that a caller needs to act on step by step: after advice, append the person to the position and ask again.
 use asking::filled;

@@ -39,7 +39,8 @@ pub enum Way {
     Lost,
 }
 
-// A turn of the static walk, which looked at nobody from person `top` on; or it took somebody back, and `top` is the width.
+// A turn of the static walk, which looked at nobody from person `top` on; or no plan was found straight, and `top` is
+// the width.
 pub struct Looked {
     pub turn: Turn,
     pub top: u8,
@@ -195,7 +196,8 @@ fn plan_turn(
     }
 }
 
-// Is there a plan without some people? A turn of the static walk: straight, or else with people taken back.
+// Is there a plan without some people? A turn of the static walk, and of decremental once all are gone: straight, or else with people
+// taken back.
 pub fn without_plan(
     board: &[u32; PLACES],
     people: u8,

@@ -30,7 +30,8 @@ memberAt s k = getD (members width s) k 0
 unfoldable pub allBad : ℕ → ℕ → ℕ → Search ℕ
 allBad T F c = record { got = some 0; trials = allTrials T F 0 c }
 
--- each of F is good: where they are at most m they are all shown, with S; else the trials end with the one who has m of them before
+-- each of F is good: where they are at most m they are all shown, with S (S and F have nobody in common, so that their sum is the set of both); else the
+-- trials end with the one who has m of them before
 unfoldable pub goodFrom : ℕ → ℕ → ℕ → ℕ → ℕ → Search ℕ
 goodFrom T F S m c =
     pick (leb (size width F) m)

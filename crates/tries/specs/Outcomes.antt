@@ -52,6 +52,7 @@ turnOutcome l A (turn.Holds c) = nothing c
 
 -- ---- Walks on a board b for n people
 
+-- of a person and a move, the person
 abbrev pub named : Option (ℕ × Done) → Option ℕ
 named none = none
 named (some a) = some (a .0)

@@ -77,7 +77,7 @@ pub enum Spent {
     All(u32),
 }
 
-// The step that is ready, 32 where none is.
+// The lowest step that is ready, 32 where none is.
 pub fn next_step(board: &[u32; PLACES], p: Filled) -> Step
     ensures { λ r. ⌜ r .0 ≡ stepOn (now (board .entry)) p ⌝ }
 {
