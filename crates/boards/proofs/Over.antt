@@ -3,7 +3,7 @@ use mathlib.Core.Path.{_≡_, refl, sym, ap, ap₂, _∙_}
 use mathlib.Core.Bool.{Bool, true, false, _&&_, _||_}
 use mathlib.Core.Option.{Option, none, some}
 use mathlib.Core.List.{List, [], _∷_, _++_, append-nil}
-use Prim.Native.Nat.{ℕ, _≤_, _<_}
+use Prim.Native.Nat.{ℕ, _^_, _≤_, _<_}
 use native.Mathlib.Omega.{arith}
 use lib.Seq.{append-snoc}
 use Rattle.sets.specs.Lists.{valueOr, all, any}
@@ -12,7 +12,7 @@ use Rattle.sets.specs.Stored.{width, number}
 use Rattle.sets.specs.declared.People.{People}
 use Rattle.sets.proofs.Lists.{and-true-end, or-false-end, all-append, any-append}
 use Rattle.sets.proofs.Bits.{has-empty}
-use Rattle.sets.proofs.Counting.{has-setOf, setOf-ext}
+use Rattle.sets.proofs.Counting.{has-setOf, setOf-has, setOf-ext}
 use Rattle.sets.proofs.Members.{lowest-none, lowest-some, lowest-size}
 use Rattle.boards.specs.Over.{Over, Narrowed, Gathered}
 
@@ -89,14 +89,13 @@ module _ (test : ℕ → ℕ → Bool) where
   abbrev everyOfThose : ℕ → List ℕ → ℕ → Bool
   everyOfThose among done u = has among u && everyOf done u
 
-  pub narrowed-start : (whole s x there among : ℕ) (every : People) → s ≡ whole → x ≡ valueOr 32 (lowest 32 s) → number every ≡ common width there among
-      → Narrowed test (number every) whole s x every
+  pub narrowed-start : (s x : ℕ) (every : People) → number every < 2 ^ width → x ≡ valueOr 32 (lowest 32 s) → Narrowed test (number every) s s x every
   unfolding all
-  narrowed-start whole s x there among every w e r =
+  narrowed-start s x every l e =
       record {
         done = [];
-        over = over-start whole s x w e;
-        each = r ∙ setOf-ext _ _ width (λ u l. sym (and-true-end (has (number every) u) ∙ has-of (number every) (λ v. has there v && has among v) r u l));
+        over = over-start s s x refl e;
+        each = sym (setOf-has width (number every) l) ∙ setOf-ext _ _ width (λ u k. sym (and-true-end (has (number every) u)));
       }
 
   module _ {among whole left x : ℕ} {every : People} (g : Narrowed test among whole left x every) where

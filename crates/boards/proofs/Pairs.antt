@@ -1,25 +1,25 @@
 -- The four kinds of pairs, the test of a single rule, and of those that a step completes.
 use mathlib.Core.Path.{_≡_, sym, ap, ap₂, _∙_}
-use mathlib.Core.Bool.{Bool, true, false, _&&_}
+use mathlib.Core.Bool.{Bool, true, false, _&&_, _||_}
 use mathlib.Core.List.{List, _++_, append-nil}
-use Prim.Native.Nat.{ℕ, _<_, _%_, _^_}
-use native.Mathlib.Omega.{arith}
+use Prim.Native.Nat.{ℕ, _<_, _^_}
 use borrow.Author.Tests.{eq-eqb, ne-eqb}
 use lib.Dec.{eqb}
-use lib.ListN.{getD}
 use Rattle.sets.specs.Lists.{pick, from, upto, keep, all, any}
-use Rattle.sets.specs.Sets.{has, setOf, members, common, with}
+use Rattle.sets.specs.Sets.{has, setOf, members, common, joined, with}
 use Rattle.sets.specs.Stored.{width, setAt}
-use Rattle.sets.proofs.Lists.{from-lo, from-append, keep-append, keep-nothing}
-use Rattle.sets.proofs.Bits.{has-beyond}
-use Rattle.sets.proofs.Counting.{has-setOf, setOf-ext}
+use Rattle.sets.proofs.Lists.{and-true-end, true-or, from-lo, from-append, keep-append, keep-nothing}
+use Rattle.sets.proofs.Bits.{has-beyond, has-empty}
+use Rattle.sets.proofs.Counting.{has-setOf, setOf-has, setOf-ext}
 use Rattle.cases.specs.declared.Filled.{Filled}
 use Rattle.cases.specs.declared.Rule.{Rule}
 use Rattle.cases.specs.Case.{mostSteps, mostRules}
 use Rattle.cases.specs.Rules.{stepsIn}
 use Rattle.cases.specs.Filled.{whoIn}
 use Rattle.cases.proofs.Rules.{needed-as-one}
-use Rattle.boards.specs.Board.{rowPlace, columnPlace, loopsPlace, readyPlace, completePlace, stepSets, readyOn, ruleOn, completeOn, fullOn, dueOn, pairOn, keptOn, fitsOn}
+use Rattle.boards.specs.Board.{rowPlace, columnPlace, loopsPlace, ruleOn, fullOn, dueOn, pairOn, keptOn, fitsOn}
+use Rattle.boards.specs.Looked.{Agree}
+use Rattle.boards.proofs.Looked.{due-agree, kept-agree}
 
 module _ (b : List ℕ) (p : Filled) (s k y x : ℕ) where
   abbrev row : ℕ
@@ -82,19 +82,7 @@ module _ (b : List ℕ) (p : Filled) (s : ℕ) (r : Rule) (small : r .group < 2 
   pub kept-every : (n : ℕ) → n ≡ setOf (λ u. all (λ x. test x u) (members 32 (r .group))) width → (r .form ≡ 2 → ⊥) → n ≡ setOf (keptOn b p s r) width
   kept-every n q e = q ∙ kept-as false (ne-eqb (r .form) 2 e)
 
--- ---- the steps that may be filled next
-
-pub ready-is : (b : List ℕ) (p : Filled) (n : ℕ) → n ≡ getD b (readyPlace (p .steps)) 0 → p .steps < stepSets → n % stepSets ≡ readyOn b p
-unfolding readyOn
-ready-is b p n e h =
-    let low : p .steps ≡ p .steps % stepSets = omega arith in
-    ap (λ (x : ℕ). x % stepSets) (e ∙ ap (λ (f : ℕ). getD b (readyPlace f) 0) low)
-
 -- ---- the rules that a step completes
-
-pub full-is : (b : List ℕ) (p : Filled) (s f n : ℕ) → n ≡ getD b (completePlace f) 0 → f ≡ with mostSteps (p .steps) s → n ≡ fullOn b p s
-unfolding fullOn completeOn
-full-is b p s f n q e = q ∙ ap (λ (x : ℕ). getD b (completePlace x) 0) e
 
 abbrev pub dueTest : List ℕ → Filled → ℕ → ℕ → ℕ → Bool
 dueTest b p s i u = keptOn b p s (ruleOn b i) u
@@ -103,11 +91,31 @@ pub due-here : (b : List ℕ) (p : Filled) (s i here : ℕ) (r : Rule) → here 
     → has here u ≡ dueTest b p s i u
 due-here b p s i here r q e u l = ap (λ (z : ℕ). has z u) q ∙ has-setOf (keptOn b p s r) width u l ∙ ap (λ z. keptOn b p s z u) e
 
-pub fits-are : (b : List ℕ) (p : Filled) (s among there k n : ℕ) → there ≡ setOf (λ u. true) width → k ≡ common width there among
-    → n ≡ setOf (λ u. has k u && all (λ i. dueTest b p s i u) (members mostRules (dueOn b p s))) width → n ≡ common width among (fitsOn b p s)
+pub fits-are : (b : List ℕ) (p : Filled) (s among n : ℕ) → n ≡ setOf (λ u. has among u && all (λ i. dueTest b p s i u) (members mostRules (dueOn b p s))) width
+    → n ≡ common width among (fitsOn b p s)
 unfolding fitsOn
-fits-are b p s among there k n e h q =
-    q ∙ setOf-ext _ _ width (λ u l. ap₂ _&&_
-    (ap (λ (x : ℕ). has x u) h ∙ has-setOf (λ v. has there v && has among v) width u l
-    ∙ ap (λ (x : Bool). x && has among u) (ap (λ (x : ℕ). has x u) e ∙ has-setOf (λ v. true) width u l))
-    (sym (has-setOf (λ v. all (λ i. dueTest b p s i v) (members mostRules (dueOn b p s))) width u l)))
+fits-are b p s among n q =
+    q ∙ setOf-ext _ _ width (λ u l. ap (λ (x : Bool). has among u && x) (sym (has-setOf (λ v. all (λ i. dueTest b p s i v) (members mostRules (dueOn b p s))) width u l)))
+
+-- no rule is due: everybody fits
+pub all-fit : (b : List ℕ) (p : Filled) (s among : ℕ) → among < 2 ^ width → dueOn b p s ≡ 0 → among ≡ common width among (fitsOn b p s)
+unfolding members all
+all-fit b p s among l e =
+    fits-are b p s among among
+    (sym (setOf-has width among l)
+    ∙ setOf-ext _ _ width (λ u k. sym (ap (λ (xs : List ℕ). has among u && all (λ i. dueTest b p s i u) xs) (ap (members mostRules) e ∙ keep-nothing (has 0) (upto mostRules) (λ x m. has-empty x)) ∙ and-true-end (has among u))))
+
+-- ---- from positions that agree at the steps of the rules asked
+
+module _ (b : List ℕ) {L : ℕ} {p q : Filled} (a : Agree L p q) (s : ℕ) where
+  -- rule i, whose steps are among those looked at: those who keep it from p keep it from q
+  pub due-told : (i here M : ℕ) (r : Rule) → L ≡ joined mostSteps M (with mostSteps (r .group) (r .step .0)) → here ≡ setOf (keptOn b p s r) width → r ≡ ruleOn b i
+      → (u : ℕ) → u < width → has here u ≡ dueTest b q s i u
+  due-told i here M r d e f u l =
+      due-here b p s i here r e f u l
+      ∙ ap (λ x. keptOn b p s x u) (sym f)
+      ∙ sym (kept-agree b a s r (λ x k h. ap (λ (z : ℕ). has z x) d ∙ has-setOf (λ w. has M w || has (with mostSteps (r .group) (r .step .0)) w) mostSteps x k ∙ true-or (has M x) _ h) u)
+      ∙ ap (λ x. keptOn b q s x u) f
+
+  pub fits-due : (due among n : ℕ) → due ≡ dueOn b p s → n ≡ setOf (λ u. has among u && all (λ i. dueTest b q s i u) (members 32 due)) width → n ≡ common width among (fitsOn b q s)
+  fits-due due among n d e = fits-are b q s among n (e ∙ ap (λ (x : ℕ). setOf (λ u. has among u && all (λ i. dueTest b q s i u) (members mostRules x)) width) (d ∙ sym (due-agree b a s)))

@@ -5,10 +5,11 @@
 --   allowed   the set of people who may do step s
 -- then the plain numbers, whose places count words:
 --   named     the set of rules that name step s, bit i for rule i
---   before    the set of steps that must precede step s
 --   rules     form, relation, step s and set X of rule i, one byte each from the lowest up
---   ready     for each set of steps, those that may be filled next where these are filled
---   complete  for each set of steps, the rules all of whose steps are among them, bit i for rule i
+--   ready     the steps that no step of a half but those in the entry's set must precede
+--   complete  the rules that name no step of a half but those in the entry's set, bit i for rule i
+-- The last two are tables by halves: the steps are taken as a low and a high half, and a table has an entry for each set of low steps, then one for each
+-- set of high steps, bit x of the entry's number for step x of its half. A set of steps has an entry in each half, and what both tell is told of the set.
 -- Past its end every number reads 0, and every set is of nobody.
 use mathlib.Core.Bool.{Bool}
 use mathlib.Core.List.{List}
@@ -16,7 +17,7 @@ use Prim.Native.Nat.{ℕ, _+_, _*_, _/_, _%_, _^_}
 use lib.Dec.{eqb}
 use lib.ListN.{getD}
 use Rattle.sets.specs.Lists.{pick, all}
-use Rattle.sets.specs.Sets.{has, setOf, members, common, with, within}
+use Rattle.sets.specs.Sets.{has, setOf, members, common, difference, with}
 use Rattle.sets.specs.Stored.{width, setAt}
 use Rattle.cases.specs.declared.Rule.{Rule}
 use Rattle.cases.specs.declared.Filled.{Filled}
@@ -26,7 +27,7 @@ use Rattle.cases.specs.Filled.{whoIn}
 
 -- ---- The places
 
--- how many relations there are, how many rows, how many words a set takes, and how many sets of steps there are
+-- how many relations there are, how many rows, and how many words a set takes
 abbrev pub relations : ℕ
 relations = mostTables + 2
 
@@ -36,8 +37,15 @@ rows = relations * mostPeople
 abbrev pub setWords : ℕ
 setWords = 1
 
-abbrev pub stepSets : ℕ
-stepSets = 2 ^ mostSteps
+-- how many steps a half has, how many sets of its steps there are, and how many entries a table by halves has
+abbrev pub halfSteps : ℕ
+halfSteps = mostSteps / 2
+
+abbrev pub halfSets : ℕ
+halfSets = 2 ^ halfSteps
+
+abbrev pub halves : ℕ
+halves = 2 * halfSets
 
 -- where each part starts
 abbrev pub columnsFrom : ℕ
@@ -52,21 +60,18 @@ allowedFrom = loopsFrom + relations
 abbrev pub namedFrom : ℕ
 namedFrom = (allowedFrom + mostSteps) * setWords
 
-abbrev pub beforeFrom : ℕ
-beforeFrom = namedFrom + mostSteps
-
 abbrev pub rulesFrom : ℕ
-rulesFrom = beforeFrom + mostSteps
+rulesFrom = namedFrom + mostSteps
 
 abbrev pub readyFrom : ℕ
 readyFrom = rulesFrom + mostRules
 
 abbrev pub completeFrom : ℕ
-completeFrom = readyFrom + stepSets
+completeFrom = readyFrom + halves
 
 -- how many words there are
 abbrev pub places : ℕ
-places = completeFrom + stepSets
+places = completeFrom + halves
 
 abbrev pub rowPlace : ℕ → ℕ → ℕ
 rowPlace k u = k * mostPeople + u
@@ -83,17 +88,18 @@ allowedPlace s = allowedFrom + s
 abbrev pub namedPlace : ℕ → ℕ
 namedPlace s = namedFrom + s
 
-abbrev pub beforePlace : ℕ → ℕ
-beforePlace s = beforeFrom + s
-
 abbrev pub rulePlace : ℕ → ℕ
 rulePlace i = rulesFrom + i
 
-abbrev pub readyPlace : ℕ → ℕ
-readyPlace f = readyFrom + f
+-- the entries of a set of steps in a table by halves, in which only the bits of steps count; and the step that bit x stands for in entry j
+abbrev pub lowEntry : ℕ → ℕ
+lowEntry f = f % halfSets
 
-abbrev pub completePlace : ℕ → ℕ
-completePlace f = completeFrom + f
+abbrev pub highEntry : ℕ → ℕ
+highEntry f = halfSets + f / halfSets % halfSets
+
+abbrev pub halfStep : ℕ → ℕ → ℕ
+halfStep j x = j / halfSets * halfSteps + x
 
 -- ---- A rule as one number: one byte each, from the lowest up
 
@@ -115,14 +121,18 @@ module _ (b : List ℕ) where
   unfoldable pub ruleOn : ℕ → Rule
   ruleOn i = unpacked (getD b (rulePlace i) 0)
 
+  -- what a table by halves, from a place on, tells of a set of steps
+  unfoldable pub bothOn : ℕ → ℕ → ℕ
+  bothOn start f = common mostRules (getD b (start + lowEntry f) 0) (getD b (start + highEntry f) 0)
+
   -- the rules all of whose steps are in a set of steps
   unfoldable pub completeOn : ℕ → ℕ
-  completeOn f = getD b (completePlace f) 0
+  completeOn f = bothOn completeFrom f
 
   module _ (p : Filled) where
-    -- the steps that may be filled next; of both sets of steps only the bits of steps are read
+    -- the steps that may be filled next: those that must precede them are filled, and they are not
     unfoldable pub readyOn : ℕ
-    readyOn = getD b (readyPlace (p .steps % stepSets)) 0 % stepSets
+    readyOn = difference mostSteps (bothOn readyFrom (p .steps)) (p .steps)
 
     module _ (s : ℕ) where
       -- the rules whose steps are all filled once s is
@@ -132,10 +142,6 @@ module _ (b : List ℕ) where
       -- the rules that step s completes: they name it, and with it all of their steps are filled
       unfoldable pub dueOn : ℕ
       dueOn = common mostRules (namedOn s) fullOn
-
-      -- no rule that names s waits for a later step; on a board that is well laid no later test then asks who fills s
-      unfoldable pub settledOn : Bool
-      settledOn = within mostRules (namedOn s) fullOn
 
       -- the people with whom, placed at s, the pair (person of y, person of x) is in relation k
       unfoldable pub pairOn : ℕ → ℕ → ℕ → ℕ

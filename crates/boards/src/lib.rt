@@ -6,17 +6,19 @@ use cases::Filled;
 use cases::Rule;
 use cases::Step;
 use cases::everybody_if;
+use cases::joined_steps;
 use cases::with_step;
 use sets::People;
 use sets::lowest_in;
 use sets::shared;
-use sets::within;
 use sets::without;
 ghost use mathlib.Core.Path.{_≡_};
 ghost use lib.ListN.{getD};
-ghost use Rattle.sets.specs.Sets.{setOf, common};
+ghost use Rattle.sets.specs.Sets.{setOf, common, difference, with};
 ghost use Rattle.sets.specs.Stored.{width, number};
-ghost use Rattle.boards.specs.Board.{unpacked, allowedOn, namedOn, ruleOn, completeOn, readyOn, fullOn, dueOn, settledOn, pairOn, keptOn, fitsOn};
+ghost use Rattle.cases.specs.Case.{mostSteps, mostRules};
+ghost use Rattle.boards.specs.Board.{unpacked, allowedOn, namedOn, ruleOn, bothOn, readyOn, fullOn, dueOn, pairOn, keptOn, fitsOn};
+ghost use Rattle.boards.specs.Looked.{Fits};
 
 // How many relations there are: "same person", "different person" and the tables.
 pub const RELATIONS: usize = Case::TABLES + 2;
@@ -27,8 +29,13 @@ pub const ROWS: usize = RELATIONS * Case::PEOPLE;
 // How many words a set takes.
 pub const SET_WORDS: usize = 1;
 
-// How many sets of steps there are.
-pub const STEP_SETS: usize = 1 << Case::STEPS;
+// How many steps a half of them has, and how many sets of its steps there are.
+pub const HALF_STEPS: usize = Case::STEPS / 2;
+
+pub const HALF_SETS: usize = 1 << HALF_STEPS;
+
+// How many entries a table by halves has: one for each set of low steps, then one for each set of high steps.
+pub const HALVES: usize = 2 * HALF_SETS;
 
 // Where each part of a board starts. The sets stand first, and their places count sets: the rows at 0, then these.
 pub const COLUMNS: usize = ROWS;
@@ -40,16 +47,14 @@ pub const ALLOWED: usize = LOOPS + RELATIONS;
 // The plain numbers stand behind the sets, and their places count words.
 pub const NAMED: usize = (ALLOWED + Case::STEPS) * SET_WORDS;
 
-pub const BEFORE: usize = NAMED + Case::STEPS;
-
-pub const RULES: usize = BEFORE + Case::STEPS;
+pub const RULES: usize = NAMED + Case::STEPS;
 
 pub const READY: usize = RULES + Case::RULES;
 
-pub const COMPLETE: usize = READY + STEP_SETS;
+pub const COMPLETE: usize = READY + HALVES;
 
 // How many words a board has.
-pub const PLACES: usize = COMPLETE + STEP_SETS;
+pub const PLACES: usize = COMPLETE + HALVES;
 
 // The people who may do step s.
 pub fn allowed(board: &[u32; PLACES], s: Step) -> People
@@ -64,33 +69,69 @@ pub fn ready(board: &[u32; PLACES], p: Filled) -> u8
     ensures { λ r. ⌜ r ≡ readyOn (now (board .entry)) p ⌝ }
 {
     let filled = p.steps;
-    (number_at(board, READY + (filled as usize)) % (STEP_SETS as u32)) as u8
+    (less(in_both(board, READY as u16, filled), filled as u32) % 256) as u8
 }
 
-// Does no rule that names step s wait for a later step? On a board that is well laid no later test then asks who fills s.
-pub fn settled(board: &[u32; PLACES], p: Filled, s: Step) -> bool
-    ensures { λ r. ⌜ r ≡ settledOn (now (board .entry)) p (s .0) ⌝ }
-{
-    within(named(board, s), full(board, p, s))
+// Those of some people who fit, and the steps whose people were looked at to tell.
+pub struct Fitted {
+    pub people: People,
+    pub looked: u8,
 }
 
-// Of some people those with whom, placed at step s, every rule is kept that s completes. Where a rule leaves nobody, no other is asked.
+// Of some people those with whom, placed at step s, every rule is kept that s completes.
 pub fn fits(board: &[u32; PLACES], p: Filled, s: Step, among: People) -> People
     ensures { λ r. ⌜ number r ≡ common width (number among) (fitsOn (now (board .entry)) p (s .0)) ⌝ }
 {
-    let mut kept = everybody_if(true).common(among);
-    let mut left = due(board, p, s);
+    fitting(board, p, s, among).people
+}
+
+// The same, with the steps looked at.
+pub fn fitting(board: &[u32; PLACES], p: Filled, s: Step, among: People) -> Fitted
+    ensures { λ r. ⌜ Fits (now (board .entry)) p (s .0) (number among) r ⌝ }
+{
+    let due = due(board, p, s);
+    if due == 0 {
+        return Fitted {
+            people: among,
+            looked: 0,
+        };
+    }
+    narrowed(board, p, s, among, due)
+}
+
+// The same, where some rules are due. Where a rule leaves nobody, no other is asked.
+fn narrowed(board: &[u32; PLACES], p: Filled, s: Step, among: People, due: u32) -> Fitted
+    requires { ⌜ due ≡ dueOn (now board) p (s .0) ⌝ }
+    ensures { λ r. ⌜ Fits (now (board .entry)) p (s .0) (number among) r ⌝ }
+{
+    let mut kept = among;
+    let mut looked: u8 = 0;
+    let mut left = due;
     let mut i = lowest_in(left);
     while i < 32 {
-        let here = keepers(board, p, s, rule(board, i));
-        kept = kept.common(here);
+        let asked = rule(board, i);
+        looked = joined_steps(looked, steps_of(asked));
+        kept = kept.common(keepers(board, p, s, asked));
         if kept.is_none() {
-            return kept;
+            return Fitted {
+                people: kept,
+                looked: looked,
+            };
         }
         left = without(left, i);
         i = lowest_in(left);
     }
-    kept
+    Fitted {
+        people: kept,
+        looked: looked,
+    }
+}
+
+// The steps of a rule: its own and those of X.
+fn steps_of(rule: Rule) -> u8
+    ensures { λ r. ⌜ r ≡ with mostSteps (rule .group) (rule .step .0) ⌝ }
+{
+    with_step(rule.group, rule.step)
 }
 
 // The test of a single rule: the people with whom, placed at step s, it is kept. A pair is (person of the rule's step s, person of a member of its set X).
@@ -146,7 +187,7 @@ fn pair(board: &[u32; PLACES], p: Filled, s: Step, rule: Rule, x: Step) -> Peopl
 }
 
 // The rules that step s completes, bit i for rule i.
-pub fn due(board: &[u32; PLACES], p: Filled, s: Step) -> u32
+fn due(board: &[u32; PLACES], p: Filled, s: Step) -> u32
     ensures { λ r. ⌜ r ≡ dueOn (now (board .entry)) p (s .0) ⌝ }
 {
     shared(named(board, s), full(board, p, s))
@@ -165,7 +206,27 @@ fn full(board: &[u32; PLACES], p: Filled, s: Step) -> u32
     ensures { λ r. ⌜ r ≡ fullOn (now (board .entry)) p (s .0) ⌝ }
 {
     let filled = with_step(p.steps, s);
-    number_at(board, COMPLETE + (filled as usize))
+    in_both(board, COMPLETE as u16, filled)
+}
+
+// What a table by halves, which starts at a place, tells of a set of steps: what is in its entry for the low half and in that for the high half.
+fn in_both(board: &[u32; PLACES], start: u16, f: u8) -> u32
+    ensures { λ r. ⌜ r ≡ bothOn (now (board .entry)) start f ⌝ }
+{
+    let low = f % (HALF_SETS as u8);
+    let high = f / (HALF_SETS as u8) % (HALF_SETS as u8);
+    let first = start as usize;
+    shared(
+        number_at(board, first + (low as usize)),
+        number_at(board, first + (HALF_SETS + (high as usize))),
+    )
+}
+
+// The set without those that are gone.
+fn less(set: u32, gone: u32) -> u32
+    ensures { λ r. ⌜ r ≡ difference mostRules set gone ⌝ }
+{
+    set & !gone
 }
 
 // Rule i.

@@ -1,4 +1,4 @@
-// The entries of the parts, read into the arrays of a case. Past the end of a part they are zero.
+// The entries of the parts, read into the arrays of a case. Past the end of a part they are zero, and reading stops there.
 use cases::Case;
 use cases::Counts;
 use cases::Rule;
@@ -48,6 +48,9 @@ fn read_people(part: &[u8]) -> [u16; Case::PEOPLE]
     let mut people = [0u16; Case::PEOPLE];
     let mut i = 0;
     while i < Case::PEOPLE {
+        if part.len() <= 2 * i {
+            return people;
+        }
         people[i] = word_at(part, 2 * i);
         i += 1;
     }
@@ -65,6 +68,9 @@ fn read_steps(part: &[u8]) -> [StepEntry; Case::STEPS]
     let mut steps = [none; Case::STEPS];
     let mut i = 0;
     while i < Case::STEPS {
+        if part.len() <= 4 * i {
+            return steps;
+        }
         steps[i] = step_at(part, i);
         i += 1;
     }
@@ -89,6 +95,9 @@ fn read_rows(part: &[u8]) -> [People; Case::ROWS]
     let mut rows = [none; Case::ROWS];
     let mut i = 0;
     while i < Case::ROWS {
+        if part.len() <= 4 * i {
+            return rows;
+        }
         rows[i] = People::from_word(long_at(part, 4 * i));
         i += 1;
     }
@@ -108,6 +117,9 @@ fn read_rules(part: &[u8]) -> [Rule; Case::RULES]
     let mut rules = [none; Case::RULES];
     let mut i = 0;
     while i < Case::RULES {
+        if part.len() <= 4 * i {
+            return rules;
+        }
         rules[i] = rule_at(part, i);
         i += 1;
     }

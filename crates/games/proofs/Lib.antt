@@ -4,11 +4,11 @@ pub mod Verdicts
 pub mod Good
 pub mod Chain
 pub mod Limits
+pub mod Cuts
+pub mod Few
 pub mod Play
 pub mod Trials
 pub mod Strikes
 pub mod Matched
 pub mod Walks
 pub mod Gone
-pub mod Straight
-pub mod Spread

@@ -1,10 +1,10 @@
 -- What is counted.
-use mathlib.Core.Path.{_≡_, refl, ap, ap₂, _∙_}
+use mathlib.Core.Path.{_≡_, refl, sym, ap, ap₂, _∙_}
 use mathlib.Core.Logic.{inl, inr}
 use mathlib.Core.Option.{Option, none, some, Option·none-ne-some, Option·some-ne-none}
-use mathlib.Core.List.{List, [], _∷_}
+use mathlib.Core.List.{List, [], _∷_, _++_, map}
 use Prim.Native.Nat.{ℕ, zero, suc, _+_, _<_}
-use native.Mathlib.Nat.{not-suc-le-zero, le-of-suc-le-suc}
+use native.Mathlib.Nat.{not-suc-le-zero, le-of-suc-le-suc, add-assoc, zero-add}
 use native.Mathlib.Omega.{arith}
 use borrow.Author.Tests.{leb-true}
 use lib.Dec.{leb}
@@ -23,6 +23,22 @@ sum f (x ∷ xs) = f x + sum f xs
 pub sum-cong : {A : Type 0} (f g : A → ℕ) (xs : List A) → ((x : A) → x ∈ xs → f x ≡ g x) → sum f xs ≡ sum g xs
 sum-cong f g [] h = refl
 sum-cong f g (x ∷ xs) h = ap₂ _+_ (h x (inl refl)) (sum-cong f g xs (λ y m. h y (inr m)))
+
+pub sum-append : {A : Type 0} (f : A → ℕ) (xs ys : List A) → sum f (xs ++ ys) ≡ sum f xs + sum f ys
+sum-append f [] ys = sym (zero-add (sum f ys))
+sum-append f (x ∷ xs) ys = ap (λ (n : ℕ). f x + n) (sum-append f xs ys) ∙ sym (add-assoc (f x) (sum f xs) (sum f ys))
+
+pub sum-map : {A B : Type 0} (f : B → ℕ) (g : A → B) (xs : List A) → sum f (map g xs) ≡ sum (λ x. f (g x)) xs
+sum-map f g [] = refl
+sum-map f g (x ∷ xs) = ap (λ (n : ℕ). f (g x) + n) (sum-map f g xs)
+
+-- none of a list gets anything
+pub seek-all-missed : {A B : Type 0} (f : A → Search B) (c : A → ℕ) (xs : List A) → ((x : A) → x ∈ xs → f x ≡ record { got = none; trials = c x })
+    → seek f xs ≡ record { got = none; trials = sum c xs }
+unfolding seek orElse plus
+seek-all-missed f c [] h = refl
+seek-all-missed f c (x ∷ xs) h =
+    ap₂ (λ w r. orElse (w .got) (w .trials) (λ _. r)) (h x (inl refl)) (seek-all-missed f c xs (λ y m. h y (inr m)))
 
 -- a search that gets nothing has gone over the whole list
 pub seek-trials : {A B : Type 0} (f : A → Search B) (xs : List A) → seek f xs .got ≡ none → seek f xs .trials ≡ sum (λ x. f x .trials) xs

@@ -59,10 +59,11 @@ fn judge_entries(c: Case) -> Judged
     ensures { λ r. ⌜ r ≡ judgedBy (entryChecks c) ⌝ }
 {
     let n = c.counts;
+    let people = c.people;
     let steps = c.steps;
     let rows = c.rows;
     let rules = c.rules;
-    let seven = judge_people(&c.people, n);
+    let seven = judge_people(&people, n);
     let eight = judge_roles(steps, n);
     let nine = judge_order(steps, n);
     let ten = judge_rows(rows, n);

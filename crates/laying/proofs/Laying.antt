@@ -6,34 +6,35 @@ use Prim.Native.Nat.{ℕ, zero, suc, _+_, _*_, _^_, _≤_, _<_}
 use native.Mathlib.Nat.{mul-le-mul}
 use native.Mathlib.Decide.{decLt}
 use native.Mathlib.Omega.{arith}
-use borrow.Author.Tests.{lt-ltb, le-ltb, ltb-true, ltb-false}
+use borrow.Author.Tests.{eq-eqb, lt-ltb, le-ltb, ltb-true, ltb-false}
 use lib.Dec.{eqb, ltb}
 use lib.ListN.{getD, List·getD-eq-default}
 use lib.Pow.{pow-pos}
-use Rattle.sets.specs.Lists.{pick, upto, keep, all}
-use Rattle.sets.specs.Sets.{has, setOf, meets, within}
+use Rattle.sets.specs.Lists.{pick, upto, all}
+use Rattle.sets.specs.Sets.{has, setOf, meets, everybody}
 use Rattle.sets.specs.Stored.{width, setAt, number, noPeople}
-use Rattle.sets.proofs.Lists.{and-true, and-false-end, upto-in, all-cong}
-use Rattle.sets.proofs.Bits.{has-empty}
-use Rattle.sets.proofs.Counting.{has-setOf, setOf-ext, is-setOf}
+use Rattle.sets.proofs.Lists.{and-true, and-true-end, and-false-end, true-or, or-false-end, upto-in, all-cong}
+use Rattle.sets.proofs.Bits.{has-empty, has-beyond}
+use Rattle.sets.proofs.Counting.{setOf-lt, has-setOf, setOf-ext, is-setOf}
 use Rattle.sets.proofs.Records.{number-none}
 use Rattle.words.specs.Part.{table}
 use Rattle.words.proofs.Parts.{length-table, getD-table}
+use Rattle.cases.specs.declared.Rule.{Rule}
 use Rattle.cases.specs.declared.Case.{Case}
 use Rattle.cases.specs.Case.{mostPeople, mostSteps, mostTables, mostRoles, mostRules, people, steps, tables, entry, row, rolesHeld, rolesFor, zeroStep, zeroRule}
 use Rattle.cases.specs.Rules.{related}
 use Rattle.cases.specs.Plans.{may}
 use Rattle.cases.proofs.Rounds.{may-known, may-step, entry-at, entry-past}
-use Rattle.boards.specs.Board.{relations, rows, stepSets, columnsFrom, loopsFrom, allowedFrom, namedFrom, beforeFrom, rulesFrom, readyFrom, completeFrom, places, rowPlace, namedPlace, beforePlace}
+use Rattle.boards.specs.Board.{relations, halfSteps, halves, columnsFrom, loopsFrom, allowedFrom, namedFrom, rulesFrom, readyFrom, completeFrom, places, rowPlace, halfStep}
+use Rattle.laying.specs.declared.Sizes.{Sizes}
 use Rattle.laying.specs.declared.Order.{Order}
 use Rattle.laying.specs.declared.Order.the-variants as order
-use Rattle.laying.specs.Laid.{packed, names, pairOf, rowOf, columnOf, loopsOf, allowedOf, namedOf, stepsOf, preceding, beforeOf, packedOf, readyOf, completeOf, laidOut}
+use Rattle.laying.specs.Laid.{packed, names, pairOf, rowOf, columnOf, loopsOf, allowedOf, namedOf, preceding, packedOf, readyOf, completeOf, laidOut}
 use Rattle.laying.specs.Ready.{Bounded}
-use Rattle.laying.specs.Parts.{relatedIn, rowIn, gatheredIn, columnIn, loopsIn, allowedIn, namedIn, precedingIn, readyIn, namingOnly, completeIn, laidFrom, laidBlocks, Front}
-use Rattle.laying.proofs.Places.{row-at, column-at, loops-at, allowed-at, named-at, before-at, rule-at, ready-at, complete-at, laid-length}
-use Rattle.laying.proofs.Tests.{all-keep}
+use Rattle.laying.specs.Parts.{relatedIn, rowIn, gatheredIn, columnIn, havingIn, loopsIn, allowedIn, precedingIn, namedBy, precededBy, waitsIn, freeIn, halfIn, laidFrom, laidBlocks, Front, Sized}
+use Rattle.laying.proofs.Places.{row-at, column-at, loops-at, allowed-at, named-at, rule-at, ready-at, complete-at, laid-length}
 use Rattle.laying.proofs.Rows.{eqb-turned}
-use Rattle.laying.proofs.OffSets.{sets-few}
+use Rattle.laying.proofs.Preceding.{words-end}
 use Rattle.laying.proofs.Writing.{blank, front-start, front-from, front-blocks, front-end}
 
 -- what is 0 unless a test holds
@@ -50,6 +51,14 @@ and-turned true true x y e = e
 and-turned true false x y e = refl
 and-turned false true x y e = refl
 and-turned false false x y e = refl
+
+and-swap : (a b : Bool) → a && b ≡ b && a
+and-swap true b = sym (and-true-end b)
+and-swap false b = sym (and-false-end b)
+
+or-swap : (a b : Bool) → a || b ≡ b || a
+or-swap true b = sym (true-or b true refl)
+or-swap false b = sym (or-false-end b)
 
 pub rows-few : (t n : ℕ) → t ≤ mostTables → n ≤ mostPeople → t * n ≤ mostTables * mostPeople
 rows-few t n h g = mul-le-mul h g
@@ -77,14 +86,6 @@ module _ (c : Case) (o : Order) (counts : Bounded (c .counts)) where
   pair-known : (k u v : ℕ) → ltb k m ≡ true → ltb u n ≡ true → pairOf c k u v ≡ ltb v n && related c k u v
   unfolding pairOf
   pair-known k u v e q = ap₂ (λ (x y : Bool). x && (y && (ltb v n && related c k u v))) e q
-
-  -- a pair is of people of the case
-  pair-within : (k u v : ℕ) → ltb u n && pairOf c k u v ≡ pairOf c k u v
-  pair-within k u v = go (ltb u n) refl
-    where
-      go : (d : Bool) → ltb u n ≡ d → d && pairOf c k u v ≡ pairOf c k u v
-      go true e = refl
-      go false e = sym (pair-unknown k u v (ap (λ (d : Bool). ltb k m && d) e ∙ and-false-end (ltb k m)))
 
   column-unknown : (k u v : ℕ) → ltb k m && ltb v n ≡ false → pairOf c k u v ≡ false
   unfolding pairOf
@@ -152,14 +153,13 @@ module _ (c : Case) (o : Order) (counts : Bounded (c .counts)) where
   -- ---- what is read off the rows
 
   module _ (out : List ℕ) (a : ℕ) (front : Front b a out) (past : columnsFrom ≤ a) where
-    row-has : (k u v : ℕ) → k < relations → u < mostPeople → v < width → ltb u n && has (setAt out (rowPlace k u)) v ≡ pairOf c k u v
+    row-has : (k u v : ℕ) → k < relations → u < mostPeople → v < width → has (setAt out (rowPlace k u)) v ≡ pairOf c k u v
     unfolding setAt rowOf
     row-has k u v h l i =
-        ap (λ (s : ℕ). ltb u n && has s v) (front .done (rowPlace k u) (omega arith) ∙ row-at c o k u h l)
-        ∙ ap (λ (d : Bool). ltb u n && d) (has-setOf (λ x. pairOf c k u x) width v i) ∙ pair-within k u v
+        ap (λ (s : ℕ). has s v) (front .done (rowPlace k u) (omega arith) ∙ row-at c o k u h l) ∙ has-setOf (λ x. pairOf c k u x) width v i
 
     column-part : (k v : ℕ) → k < relations → v < mostPeople
-        → getD b (columnsFrom + (k * mostPeople + v)) 0 ≡ pick (ltb k m && ltb v n) (columnIn out n k v) 0
+        → getD b (columnsFrom + (k * mostPeople + v)) 0 ≡ pick (ltb k m && ltb v n) (columnIn out k v) 0
     unfolding setAt rowOf columnOf columnIn gatheredIn
     column-part k v h l =
         column-at c o k v h l
@@ -168,7 +168,7 @@ module _ (c : Case) (o : Order) (counts : Bounded (c .counts)) where
         (λ e. nobody _ width (λ u i. column-unknown k u v e))
       where
         gathered : ℕ
-        gathered = setOf (λ u. ltb u n && has (getD out (rowPlace k u) 0) v) width
+        gathered = setOf (λ u. has (getD out (rowPlace k u) 0) v) width
 
         either-way : Dec (k < 2) → setOf (λ u. pairOf c k u v) width ≡ pick (ltb k 2) (getD out (rowPlace k v) 0) gathered
         either-way (yes i) =
@@ -179,12 +179,25 @@ module _ (c : Case) (o : Order) (counts : Bounded (c .counts)) where
             ∙ sym (ap (λ (d : Bool). pick d (getD out (rowPlace k v) 0) gathered) (le-ltb k 2 (omega arith)))
 
     loops-part : (k : ℕ) → k < relations → getD b (loopsFrom + k) 0 ≡ pick (ltb k m) (loopsIn out n k) 0
-    unfolding setAt loopsOf loopsIn
+    unfolding setAt loopsOf pairOf related havingIn
     loops-part k h =
         loops-at c o k h
-        ∙ unless (ltb k m) (setOf (λ u. pairOf c k u u) width) (setOf (λ u. ltb u n && has (getD out (rowPlace k u) 0) u) width)
-        (λ e. setOf-ext _ _ width (λ u i. sym (row-has k u u h i i)))
+        ∙ unless (ltb k m) (setOf (λ u. pairOf c k u u) width) (loopsIn out n k) (λ e. known k h e)
         (λ e. nobody _ width (λ u i. pair-unknown k u u (ap (λ (d : Bool). d && ltb u n) e)))
+      where
+        own : (a d : Bool) → d ≡ true → a && (a && d) ≡ a
+        own true d q = q
+        own false d q = refl
+
+        other : (a d : Bool) → d ≡ false → a && (a && d) ≡ false
+        other true d q = q
+        other false d q = refl
+
+        known : (k : ℕ) → k < relations → ltb k m ≡ true → setOf (λ u. pairOf c k u u) width ≡ loopsIn out n k
+        known zero l e = setOf-ext _ _ width (λ u i. ap (λ (d : Bool). d && (ltb u n && (ltb u n && eqb u u))) e ∙ own (ltb u n) (eqb u u) (eq-eqb u u refl))
+        known (suc zero) l e =
+            nobody _ width (λ u i. ap (λ (d : Bool). d && (ltb u n && (ltb u n && not (eqb u u)))) e ∙ other (ltb u n) (not (eqb u u)) (ap not (eq-eqb u u refl)))
+        known (suc (suc k)) l e = setOf-ext _ _ width (λ u i. sym (row-has (suc (suc k)) u u l i i))
 
   -- ---- the other parts
 
@@ -213,18 +226,97 @@ module _ (c : Case) (o : Order) (counts : Bounded (c .counts)) where
           nothing u k (may c u s) refl
           ∙ sym (ap (λ (d : Bool). d && meets mostRoles (getD (c .people) u 0) (getD (c .steps) s zeroStep .roles)) (le-ltb u n (omega arith)))
 
-  named-part : (s : ℕ) → s < mostSteps → getD b (namedFrom + s) 0 ≡ pick (ltb s mostSteps) (namedIn (c .rules) (c .counts .rules) s) 0
-  unfolding namedOf namedIn
-  named-part s h =
-      named-at c o s h ∙ sym (ap (λ (d : Bool). pick d (namedIn (c .rules) (c .counts .rules) s) 0) (lt-ltb s mostSteps h))
+  module _ (named : List ℕ) (e : named ≡ table (waitsIn (namedBy (c .rules)) (c .counts .rules)) mostSteps) where
+    -- the rules that wait for a step are those that name it
+    named-word : (x i : ℕ) → x < mostSteps → i < mostRules → has (getD named x 0) i ≡ ltb i (c .counts .rules) && names (getD (c .rules) i zeroRule) x
+    unfolding waitsIn names
+    named-word x i l k =
+        ap (λ (z : ℕ). has z i) (ap (λ (w : List ℕ). getD w x 0) e ∙ getD-table (waitsIn (namedBy (c .rules)) (c .counts .rules)) mostSteps x 0 l)
+        ∙ has-setOf (λ j. has (namedBy (c .rules) j) x && ltb j (c .counts .rules)) mostRules i k
+        ∙ ap (λ (d : Bool). d && ltb i (c .counts .rules)) (has-setOf (λ w. has (rule .group) w || eqb w (rule .step .0)) mostSteps x l ∙ turned)
+        ∙ and-swap (eqb (rule .step .0) x || has (rule .group) x) (ltb i (c .counts .rules))
+      where
+        rule : Rule
+        rule = getD (c .rules) i zeroRule
 
-  before-part : (s : ℕ) → s < mostSteps → getD b (beforeFrom + s) 0 ≡ pick (ltb s (steps c)) (precedingIn (getD (c .steps) s zeroStep) o s) 0
-  unfolding beforeOf
-  before-part s h =
-      before-at c o s h
-      ∙ unless (ltb s (steps c)) (pick (ltb s (steps c)) (preceding c o s) 0) (precedingIn (getD (c .steps) s zeroStep) o s)
-      (λ e. ap (λ (d : Bool). pick d (preceding c o s) 0) e ∙ preceding-here o s e)
-      (λ e. ap (λ (d : Bool). pick d (preceding c o s) 0) e)
+        turned : has (rule .group) x || eqb x (rule .step .0) ≡ eqb (rule .step .0) x || has (rule .group) x
+        turned = ap (λ (d : Bool). has (rule .group) x || d) (eqb-turned x (rule .step .0)) ∙ or-swap (has (rule .group) x) (eqb (rule .step .0) x)
+
+    named-part : (s : ℕ) → s < mostSteps → getD b (namedFrom + s) 0 ≡ pick (ltb s mostSteps) (getD named s 0) 0
+    unfolding namedOf waitsIn
+    named-part s h =
+        named-at c o s h
+        ∙ sym (is-setOf _ mostRules (getD named s 0) small (λ i l. named-word s i h l))
+        ∙ sym (ap (λ (d : Bool). pick d (getD named s 0) 0) (lt-ltb s mostSteps h))
+      where
+        small : getD named s 0 < 2 ^ mostRules
+        small =
+            omega (
+              arith,
+              ap (λ (w : List ℕ). getD w s 0) e ∙ getD-table (waitsIn (namedBy (c .rules)) (c .counts .rules)) mostSteps s 0 h,
+              setOf-lt (λ i. has (namedBy (c .rules) i) s && ltb i (c .counts .rules)) mostRules,
+            )
+
+    complete-part : (j : ℕ) → j < halves → getD b (completeFrom + j) 0 ≡ pick (ltb j halves) (halfIn named (everybody mostRules (c .counts .rules)) j) 0
+    unfolding completeOf freeIn
+    complete-part j h =
+        complete-at c o j h
+        ∙ setOf-ext _ _ mostRules
+        (λ i l. only i l (ltb i used) refl
+        ∙ ap (λ (d : Bool). d && all (λ x. has j x || not (has (getD named (halfStep j x) 0) i)) (upto halfSteps)) (sym (has-setOf (λ v. ltb v used) mostRules i l)))
+        ∙ sym (ap (λ (d : Bool). pick d (halfIn named (everybody mostRules used) j) 0) (lt-ltb j halves h))
+      where
+        used : ℕ
+        used = c .counts .rules
+
+        only : (i : ℕ) → i < mostRules → (d : Bool) → ltb i used ≡ d
+            → d && all (λ x. has j x || not (names (getD (c .rules) i zeroRule) (halfStep j x))) (upto halfSteps)
+            ≡ d && all (λ x. has j x || not (has (getD named (halfStep j x) 0) i)) (upto halfSteps)
+        only i l false q = refl
+        only i l true q =
+            all-cong _ _ (upto halfSteps)
+            (λ x m.
+            let k = upto-in halfSteps x m in
+            ap (λ (d : Bool). has j x || not d)
+            (sym (named-word (halfStep j x) i (omega arith) l ∙ ap (λ (d : Bool). d && names (getD (c .rules) i zeroRule) (halfStep j x)) q)))
+
+  module _ (following : List ℕ) (e : following ≡ table (waitsIn (precededBy (c .steps) o) (steps c)) mostSteps) where
+    following-word : (x s : ℕ) → x < mostSteps → s < mostRules → ltb s (steps c) ≡ true → has (getD following x 0) s ≡ has (preceding c o s) x
+    unfolding waitsIn
+    following-word x s l k q =
+        ap (λ (z : ℕ). has z s) (ap (λ (w : List ℕ). getD w x 0) e ∙ getD-table (waitsIn (precededBy (c .steps) o) (steps c)) mostSteps x 0 l)
+        ∙ has-setOf (λ v. has (precededBy (c .steps) o v) x && ltb v (steps c)) mostRules s k
+        ∙ ap₂ (λ (z : ℕ) (d : Bool). has z x && d) (sym (preceding-here o s q)) q ∙ and-true-end (has (preceding c o s) x)
+
+    ready-part : (j : ℕ) → j < halves → getD b (readyFrom + j) 0 ≡ pick (ltb j halves) (halfIn following (everybody mostRules (steps c)) j) 0
+    unfolding readyOf freeIn
+    ready-part j h =
+        ready-at c o j h
+        ∙ is-setOf _ mostRules (setOf first mostSteps) (omega (arith, setOf-lt first mostSteps)) (λ s l. at s l (decLt s mostSteps))
+        ∙ sym (ap (λ (d : Bool). pick d (halfIn following (everybody mostRules (steps c)) j) 0) (lt-ltb j halves h))
+      where
+        first : ℕ → Bool
+        first s = ltb s (steps c) && all (λ x. has j x || not (has (preceding c o s) (halfStep j x))) (upto halfSteps)
+
+        free : ℕ → Bool
+        free s = all (λ x. has j x || not (has (getD following (halfStep j x) 0) s)) (upto halfSteps)
+
+        listed : (s : ℕ) → s < mostRules → has (everybody mostRules (steps c)) s ≡ ltb s (steps c)
+        listed s l = has-setOf (λ v. ltb v (steps c)) mostRules s l
+
+        only : (s : ℕ) → s < mostRules → (d : Bool) → ltb s (steps c) ≡ d → d && all (λ x. has j x || not (has (preceding c o s) (halfStep j x))) (upto halfSteps) ≡ d && free s
+        only s l false q = refl
+        only s l true q =
+            all-cong _ _ (upto halfSteps)
+            (λ x m.
+            let k = upto-in halfSteps x m in
+            ap (λ (d : Bool). has j x || not d) (sym (following-word (halfStep j x) s (omega arith) l q)))
+
+        at : (s : ℕ) → s < mostRules → Dec (s < mostSteps) → has (setOf first mostSteps) s ≡ has (everybody mostRules (steps c)) s && free s
+        at s l (yes k) = has-setOf first mostSteps s k ∙ only s l (ltb s (steps c)) refl ∙ sym (ap (λ (d : Bool). d && free s) (listed s l))
+        at s l (no k) =
+            has-beyond mostSteps (setOf first mostSteps) s (setOf-lt first mostSteps) (omega arith)
+            ∙ sym (ap (λ (d : Bool). d && free s) (listed s l ∙ le-ltb s (steps c) (omega (arith, counts .steps))))
 
   rules-part : (i : ℕ) → i < mostRules → getD b (rulesFrom + i) 0 ≡ pick (ltb i (c .counts .rules)) (packed (getD (c .rules) i zeroRule)) 0
   unfolding packedOf packed
@@ -234,82 +326,40 @@ module _ (c : Case) (o : Order) (counts : Bounded (c .counts)) where
       (λ e. ap packed (entry-at zeroRule (c .counts .rules) (c .rules) i (ltb-true i (c .counts .rules) e)))
       (λ e. ap packed (entry-past zeroRule (c .counts .rules) (c .rules) i (ltb-false i (c .counts .rules) e)))
 
-  -- ---- what is read off the parts before, for each set of steps
+  -- ---- the parts put together, by the case's sizes
 
-  module _ (out : List ℕ) (a : ℕ) (front : Front b a out) (past : rulesFrom ≤ a) where
-    ready-part : (f : ℕ) → f < stepSets → getD b (readyFrom + f) 0 ≡ pick (ltb f (2 ^ steps c)) (readyIn out (steps c) f) 0
-    unfolding readyOf readyIn beforeOf
-    ready-part f h =
-        ready-at c o f h
-        ∙ ap (λ (r : ℕ). pick (ltb f (2 ^ steps c)) r 0) (setOf-ext _ _ mostSteps (λ s l. only s l (ltb s (steps c)) refl))
-      where
-        only : (s : ℕ) → s < mostSteps → (d : Bool) → ltb s (steps c) ≡ d
-            → d && (not (has f s) && within mostSteps (preceding c o s) f) ≡ d && (not (has f s) && within mostSteps (getD out (beforePlace s) 0) f)
-        only s l false e = refl
-        only s l true e =
-            ap (λ (x : ℕ). not (has f s) && within mostSteps x f)
-            (sym (front .done (beforePlace s) (omega arith) ∙ before-at c o s l ∙ ap (λ (d : Bool). pick d (preceding c o s) 0) e))
-
-    complete-part : (f : ℕ) → f < stepSets → getD b (completeFrom + f) 0 ≡ pick (ltb f (2 ^ steps c)) (completeIn out (c .counts .rules) f) 0
-    unfolding completeOf completeIn namingOnly stepsOf namedOf
-    complete-part f h =
-        complete-at c o f h
-        ∙ ap (λ (r : ℕ). pick (ltb f (2 ^ steps c)) r 0)
-        (setOf-ext _ _ mostRules
-        (λ i l. only i l (ltb i used) refl
-        ∙ ap (λ (d : Bool). d && all (λ x. has f x || not (has (getD out (namedPlace x) 0) i)) (upto mostSteps))
-        (sym (has-setOf (λ j. ltb j used) mostRules i l))))
-      where
-        used : ℕ
-        used = c .counts .rules
-
-        only : (i : ℕ) → i < mostRules → (d : Bool) → ltb i used ≡ d
-            → d && all (has f) (keep (names (getD (c .rules) i zeroRule)) (upto mostSteps))
-            ≡ d && all (λ x. has f x || not (has (getD out (namedPlace x) 0) i)) (upto mostSteps)
-        only i l false e = refl
-        only i l true e =
-            all-keep (has f) (names (getD (c .rules) i zeroRule)) (upto mostSteps)
-            ∙ all-cong _ _ (upto mostSteps)
-            (λ x m.
-            let k = upto-in mostSteps x m in
-            ap (λ (d : Bool). has f x || not d)
-            (sym (ap (λ (z : ℕ). has z i) (front .done (namedPlace x) (omega arith) ∙ named-at c o x k)
-            ∙ has-setOf (λ j. ltb j used && names (getD (c .rules) j zeroRule) x) mostRules i l
-            ∙ ap (λ (d : Bool). d && names (getD (c .rules) i zeroRule) x) e)))
-
-  -- ---- the parts put together, with n′ people, t tables, s steps and r rules, which are the case's
-
-  module _ (n′ t s r : ℕ) (qn : n′ ≡ n) (qt : t ≡ tables c) (qs : s ≡ steps c) (qr : r ≡ c .counts .rules) where
-    pub laid : (words b₀ b₁ b₂ b₃ b₄ b₅ b₆ b₇ b₈ b₉ : List ℕ) → words ≡ table (λ i. number (entry noPeople (tables c * n) (c .rows) i)) (mostTables * mostPeople)
-        → b₀ ≡ blank places → b₁ ≡ laidBlocks 0 (t + 2) n′ (rowIn words n′) b₀ → b₂ ≡ laidBlocks columnsFrom (t + 2) n′ (columnIn b₁ n′) b₁
-        → b₃ ≡ laidFrom loopsFrom (t + 2) (loopsIn b₂ n′) b₂
-        → b₄ ≡ laidFrom allowedFrom s (λ x. allowedIn (c .people) n′ (getD (c .steps) x zeroStep .roles)) b₃
-        → b₅ ≡ laidFrom namedFrom mostSteps (namedIn (c .rules) r) b₄
-        → b₆ ≡ laidFrom beforeFrom s (λ x. precedingIn (getD (c .steps) x zeroStep) o x) b₅
-        → b₇ ≡ laidFrom rulesFrom r (λ i. packed (getD (c .rules) i zeroRule)) b₆
-        → b₈ ≡ laidFrom readyFrom (2 ^ s) (readyIn b₇ s) b₇
-        → b₉ ≡ laidFrom completeFrom (2 ^ s) (completeIn b₈ r) b₈ → b₉ ≡ laidOut c o
-    laid words b₀ b₁ b₂ b₃ b₄ b₅ b₆ b₇ b₈ b₉ w e₀ e₁ e₂ e₃ e₄ e₅ e₆ e₇ e₈ e₉ =
+  module _ (z : Sizes) (q : Sized (c .counts) z) where
+    pub laid : (words named following b₀ b₁ b₂ b₃ b₄ b₅ b₆ b₇ b₈ : List ℕ) (all-steps all-rules : ℕ)
+        → named ≡ table (waitsIn (namedBy (c .rules)) (z .rules)) mostSteps → following ≡ table (waitsIn (precededBy (c .steps) o) (z .steps)) mostSteps
+        → words ≡ laidFrom 0 (z .rows) (λ i. number (getD (c .rows) i noPeople)) (blank (mostTables * mostPeople))
+        → b₀ ≡ blank places → b₁ ≡ laidBlocks 0 (z .kinds) (z .people) (rowIn words (z .people)) b₀
+        → b₂ ≡ laidBlocks columnsFrom (z .kinds) (z .people) (columnIn b₁) b₁
+        → b₃ ≡ laidFrom loopsFrom (z .kinds) (loopsIn b₂ (z .people)) b₂
+        → b₄ ≡ laidFrom allowedFrom (z .steps) (λ x. allowedIn (c .people) (z .people) (getD (c .steps) x zeroStep .roles)) b₃
+        → b₅ ≡ laidFrom namedFrom mostSteps (λ x. getD named x 0) b₄
+        → b₆ ≡ laidFrom rulesFrom (z .rules) (λ i. packed (getD (c .rules) i zeroRule)) b₅
+        → all-steps ≡ everybody mostRules (z .steps) → b₇ ≡ laidFrom readyFrom halves (halfIn following all-steps) b₆
+        → all-rules ≡ everybody mostRules (z .rules) → b₈ ≡ laidFrom completeFrom halves (halfIn named all-rules) b₇ → b₈ ≡ laidOut c o
+    laid words named following b₀ b₁ b₂ b₃ b₄ b₅ b₆ b₇ b₈ all-steps all-rules en ef ew e₀ e₁ e₂ e₃ e₄ e₅ e₆ es e₇ er e₈ =
         let few : m ≤ relations = omega (arith, counts .tables) in
+        let wide : tables c * n ≤ mostTables * mostPeople = rows-few (tables c) n (counts .tables) (counts .people) in
+        let w = words-end (c .rows) (tables c * n) words wide (ew ∙ ap (λ (x : ℕ). laidFrom 0 x (λ i. number (getD (c .rows) i noPeople)) (blank (mostTables * mostPeople))) (q .rows)) in
+        let qnamed : named ≡ table (waitsIn (namedBy (c .rules)) (c .counts .rules)) mostSteps = en ∙ ap (λ (x : ℕ). table (waitsIn (namedBy (c .rules)) x) mostSteps) (q .rules) in
+        let qfollowing : following ≡ table (waitsIn (precededBy (c .steps) o) (steps c)) mostSteps = ef ∙ ap (λ (x : ℕ). table (waitsIn (precededBy (c .steps) o) x) mostSteps) (q .steps) in
         let f₀ : Front b 0 b₀ = subst (λ x. Front b 0 x) (sym e₀) (front-start b) in
         let f₁ = front-blocks b f₀ m n (rowIn words n) b₁ few (omega arith) (row-part words w)
-        (e₁ ∙ ap₂ (λ (x y : ℕ). laidBlocks 0 (x + 2) y (rowIn words y) b₀) qt qn) in
-        let f₂ = front-blocks b f₁ m n (columnIn b₁ n) b₂ few (omega arith) (column-part b₁ columnsFrom f₁ (omega arith))
-        (e₂ ∙ ap₂ (λ (x y : ℕ). laidBlocks columnsFrom (x + 2) y (columnIn b₁ y) b₁) qt qn) in
+        (e₁ ∙ ap₂ (λ (x y : ℕ). laidBlocks 0 x y (rowIn words y) b₀) (q .kinds) (q .people)) in
+        let f₂ = front-blocks b f₁ m n (columnIn b₁) b₂ few (omega arith) (column-part b₁ columnsFrom f₁ (omega arith))
+        (e₂ ∙ ap₂ (λ (x y : ℕ). laidBlocks columnsFrom x y (columnIn b₁) b₁) (q .kinds) (q .people)) in
         let f₃ = front-from b f₂ m relations (loopsIn b₂ n) b₃ few (omega arith) (loops-part b₂ loopsFrom f₂ (omega arith))
-        (e₃ ∙ ap₂ (λ (x y : ℕ). laidFrom loopsFrom (x + 2) (loopsIn b₂ y) b₂) qt qn) in
+        (e₃ ∙ ap₂ (λ (x y : ℕ). laidFrom loopsFrom x (loopsIn b₂ y) b₂) (q .kinds) (q .people)) in
         let f₄ = front-from b f₃ (steps c) mostSteps _ b₄ (counts .steps) (omega arith) allowed-part
-        (e₄ ∙ ap₂ (λ (x y : ℕ). laidFrom allowedFrom x (λ z. allowedIn (c .people) y (getD (c .steps) z zeroStep .roles)) b₃) qs qn) in
-        let f₅ = front-from b f₄ mostSteps mostSteps _ b₅ (omega arith) (omega arith) named-part
-        (e₅ ∙ ap (λ (x : ℕ). laidFrom namedFrom mostSteps (namedIn (c .rules) x) b₄) qr) in
-        let f₆ = front-from b f₅ (steps c) mostSteps _ b₆ (counts .steps) (omega arith) before-part
-        (e₆ ∙ ap (λ (x : ℕ). laidFrom beforeFrom x (λ z. precedingIn (getD (c .steps) z zeroStep) o z) b₅) qs) in
-        let f₇ = front-from b f₆ (c .counts .rules) mostRules _ b₇ (counts .rules) (omega arith) rules-part
-        (e₇ ∙ ap (λ (x : ℕ). laidFrom rulesFrom x (λ i. packed (getD (c .rules) i zeroRule)) b₆) qr) in
-        let sets : 2 ^ steps c ≤ stepSets = sets-few (steps c) (counts .steps) in
-        let f₈ = front-from b f₇ (2 ^ steps c) stepSets (readyIn b₇ (steps c)) b₈ sets (omega arith) (ready-part b₇ readyFrom f₇ (omega arith))
-        (e₈ ∙ ap (λ (x : ℕ). laidFrom readyFrom (2 ^ x) (readyIn b₇ x) b₇) qs) in
-        let f₉ = front-from b f₈ (2 ^ steps c) stepSets (completeIn b₈ (c .counts .rules)) b₉ sets (omega arith)
-        (complete-part b₈ completeFrom f₈ (omega arith))
-        (e₉ ∙ ap₂ (λ (x y : ℕ). laidFrom completeFrom (2 ^ x) (completeIn b₈ y) b₈) qs qr) in
-        front-end b (laid-length c o) f₉
+        (e₄ ∙ ap₂ (λ (x y : ℕ). laidFrom allowedFrom x (λ s. allowedIn (c .people) y (getD (c .steps) s zeroStep .roles)) b₃) (q .steps) (q .people)) in
+        let f₅ = front-from b f₄ mostSteps mostSteps _ b₅ (omega arith) (omega arith) (named-part named qnamed) e₅ in
+        let f₆ = front-from b f₅ (c .counts .rules) mostRules _ b₆ (counts .rules) (omega arith) rules-part
+        (e₆ ∙ ap (λ (x : ℕ). laidFrom rulesFrom x (λ i. packed (getD (c .rules) i zeroRule)) b₅) (q .rules)) in
+        let f₇ = front-from b f₆ halves halves _ b₇ (omega arith) (omega arith) (ready-part following qfollowing)
+        (e₇ ∙ ap (λ (x : ℕ). laidFrom readyFrom halves (halfIn following x) b₆) (es ∙ ap (everybody mostRules) (q .steps))) in
+        let f₈ = front-from b f₇ halves halves _ b₈ (omega arith) (omega arith) (complete-part named qnamed)
+        (e₈ ∙ ap (λ (x : ℕ). laidFrom completeFrom halves (halfIn named x) b₇) (er ∙ ap (everybody mostRules) (q .rules))) in
+        front-end b (laid-length c o) f₈

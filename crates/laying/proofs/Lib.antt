@@ -6,6 +6,6 @@ pub mod Collecting
 pub mod Rows
 pub mod Preceding
 pub mod OffRows
-pub mod OffSets
-pub mod SomeNamed
+pub mod Waiting
+pub mod Halving
 pub mod Laying

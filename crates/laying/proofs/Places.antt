@@ -10,9 +10,9 @@ use Rattle.words.specs.Part.{table}
 use Rattle.words.proofs.Parts.{length-table, getD-table}
 use Rattle.cases.specs.declared.Case.{Case}
 use Rattle.cases.specs.Case.{mostPeople, mostSteps, mostRules}
-use Rattle.boards.specs.Board.{relations, rows, stepSets, columnsFrom, loopsFrom, allowedFrom, namedFrom, beforeFrom, rulesFrom, readyFrom, completeFrom, places, rowPlace, columnPlace, loopsPlace, allowedPlace, namedPlace, beforePlace, rulePlace, readyPlace, completePlace}
+use Rattle.boards.specs.Board.{relations, rows, halves, columnsFrom, loopsFrom, allowedFrom, namedFrom, rulesFrom, readyFrom, completeFrom, places, rowPlace, columnPlace, loopsPlace, allowedPlace, namedPlace, rulePlace}
 use Rattle.laying.specs.declared.Order.{Order}
-use Rattle.laying.specs.Laid.{rowOf, columnOf, loopsOf, allowedOf, namedOf, beforeOf, packedOf, readyOf, completeOf, laidOut}
+use Rattle.laying.specs.Laid.{rowOf, columnOf, loopsOf, allowedOf, namedOf, packedOf, readyOf, completeOf, laidOut}
 
 -- relation by relation, in each one entry for every person
 in-block : (f : ℕ → ℕ → ℕ) (k u : ℕ) → k < relations → u < mostPeople
@@ -38,16 +38,13 @@ module _ (c : Case) (o : Order) where
 
   -- what stands behind each part
   abbrev behindReady : List ℕ
-  behindReady = table (completeOf c) stepSets
+  behindReady = table (completeOf c) halves
 
   abbrev behindRules : List ℕ
-  behindRules = table (readyOf c o) stepSets ++ behindReady
-
-  abbrev behindBefore : List ℕ
-  behindBefore = table (packedOf c) mostRules ++ behindRules
+  behindRules = table (readyOf c o) halves ++ behindReady
 
   abbrev behindNamed : List ℕ
-  behindNamed = table (beforeOf c o) mostSteps ++ behindBefore
+  behindNamed = table (packedOf c) mostRules ++ behindRules
 
   abbrev behindAllowed : List ℕ
   behindAllowed = table (namedOf c) mostSteps ++ behindNamed
@@ -86,29 +83,23 @@ module _ (c : Case) (o : Order) where
       ap (λ (i : ℕ). getD (laidOut c o) i 0) e ∙ past-loops (mostSteps + j)
       ∙ beyond (table (allowedOf c) mostSteps) behindAllowed mostSteps j (length-table _ mostSteps)
 
-  past-named : (j : ℕ) → getD (laidOut c o) (beforeFrom + j) 0 ≡ getD behindNamed j 0
+  past-named : (j : ℕ) → getD (laidOut c o) (rulesFrom + j) 0 ≡ getD behindNamed j 0
   past-named j =
-      let e : beforeFrom + j ≡ namedFrom + (mostSteps + j) = omega arith in
+      let e : rulesFrom + j ≡ namedFrom + (mostSteps + j) = omega arith in
       ap (λ (i : ℕ). getD (laidOut c o) i 0) e ∙ past-allowed (mostSteps + j)
       ∙ beyond (table (namedOf c) mostSteps) behindNamed mostSteps j (length-table _ mostSteps)
-
-  past-before : (j : ℕ) → getD (laidOut c o) (rulesFrom + j) 0 ≡ getD behindBefore j 0
-  past-before j =
-      let e : rulesFrom + j ≡ beforeFrom + (mostSteps + j) = omega arith in
-      ap (λ (i : ℕ). getD (laidOut c o) i 0) e ∙ past-named (mostSteps + j)
-      ∙ beyond (table (beforeOf c o) mostSteps) behindBefore mostSteps j (length-table _ mostSteps)
 
   past-rules : (j : ℕ) → getD (laidOut c o) (readyFrom + j) 0 ≡ getD behindRules j 0
   past-rules j =
       let e : readyFrom + j ≡ rulesFrom + (mostRules + j) = omega arith in
-      ap (λ (i : ℕ). getD (laidOut c o) i 0) e ∙ past-before (mostRules + j)
+      ap (λ (i : ℕ). getD (laidOut c o) i 0) e ∙ past-named (mostRules + j)
       ∙ beyond (table (packedOf c) mostRules) behindRules mostRules j (length-table _ mostRules)
 
   past-ready : (j : ℕ) → getD (laidOut c o) (completeFrom + j) 0 ≡ getD behindReady j 0
   past-ready j =
-      let e : completeFrom + j ≡ readyFrom + (stepSets + j) = omega arith in
-      ap (λ (i : ℕ). getD (laidOut c o) i 0) e ∙ past-rules (stepSets + j)
-      ∙ beyond (table (readyOf c o) stepSets) behindReady stepSets j (length-table _ stepSets)
+      let e : completeFrom + j ≡ readyFrom + (halves + j) = omega arith in
+      ap (λ (i : ℕ). getD (laidOut c o) i 0) e ∙ past-rules (halves + j)
+      ∙ beyond (table (readyOf c o) halves) behindReady halves j (length-table _ halves)
 
   pub column-at : (k v : ℕ) → k < relations → v < mostPeople → setAt (laidOut c o) (columnPlace k v) ≡ columnOf c k v
   unfolding setAt
@@ -129,17 +120,14 @@ module _ (c : Case) (o : Order) where
   pub named-at : (s : ℕ) → s < mostSteps → getD (laidOut c o) (namedPlace s) 0 ≡ namedOf c s
   named-at s h = past-allowed s ∙ in-table (namedOf c) mostSteps s behindNamed h
 
-  pub before-at : (s : ℕ) → s < mostSteps → getD (laidOut c o) (beforePlace s) 0 ≡ beforeOf c o s
-  before-at s h = past-named s ∙ in-table (beforeOf c o) mostSteps s behindBefore h
-
   pub rule-at : (i : ℕ) → i < mostRules → getD (laidOut c o) (rulePlace i) 0 ≡ packedOf c i
-  rule-at i h = past-before i ∙ in-table (packedOf c) mostRules i behindRules h
+  rule-at i h = past-named i ∙ in-table (packedOf c) mostRules i behindRules h
 
-  pub ready-at : (f : ℕ) → f < stepSets → getD (laidOut c o) (readyPlace f) 0 ≡ readyOf c o f
-  ready-at f h = past-rules f ∙ in-table (readyOf c o) stepSets f behindReady h
+  pub ready-at : (j : ℕ) → j < halves → getD (laidOut c o) (readyFrom + j) 0 ≡ readyOf c o j
+  ready-at j h = past-rules j ∙ in-table (readyOf c o) halves j behindReady h
 
-  pub complete-at : (f : ℕ) → f < stepSets → getD (laidOut c o) (completePlace f) 0 ≡ completeOf c f
-  complete-at f h = past-ready f ∙ getD-table (completeOf c) stepSets f 0 h
+  pub complete-at : (j : ℕ) → j < halves → getD (laidOut c o) (completeFrom + j) 0 ≡ completeOf c j
+  complete-at j h = past-ready j ∙ getD-table (completeOf c) halves j 0 h
 
   pub laid-length : length (laidOut c o) ≡ places
   unfolding laidOut
@@ -151,16 +139,14 @@ module _ (c : Case) (o : Order) where
         length-append (table (loopsOf c) relations) behindLoops,
         length-append (table (allowedOf c) mostSteps) behindAllowed,
         length-append (table (namedOf c) mostSteps) behindNamed,
-        length-append (table (beforeOf c o) mostSteps) behindBefore,
         length-append (table (packedOf c) mostRules) behindRules,
-        length-append (table (readyOf c o) stepSets) behindReady,
+        length-append (table (readyOf c o) halves) behindReady,
         length-table (λ i. rowOf c (i / mostPeople) (i % mostPeople)) rows,
         length-table (λ i. columnOf c (i / mostPeople) (i % mostPeople)) rows,
         length-table (loopsOf c) relations,
         length-table (allowedOf c) mostSteps,
         length-table (namedOf c) mostSteps,
-        length-table (beforeOf c o) mostSteps,
         length-table (packedOf c) mostRules,
-        length-table (readyOf c o) stepSets,
-        length-table (completeOf c) stepSets,
+        length-table (readyOf c o) halves,
+        length-table (completeOf c) halves,
       )

@@ -1,11 +1,11 @@
 -- A case laid out as a board: what stands at each place.
 use mathlib.Core.Bool.{Bool, not, _&&_, _||_}
 use mathlib.Core.List.{List, _++_}
-use Prim.Native.Nat.{ℕ, _+_, _*_, _/_, _%_, _^_}
+use Prim.Native.Nat.{ℕ, _+_, _*_, _/_, _%_}
 use lib.Dec.{eqb, ltb}
-use lib.ListN.{getD}
-use Rattle.sets.specs.Lists.{pick, upto, keep, all}
-use Rattle.sets.specs.Sets.{has, setOf, within}
+use lib.ListN.{getD, replicate}
+use Rattle.sets.specs.Lists.{upto, all}
+use Rattle.sets.specs.Sets.{has, setOf}
 use Rattle.sets.specs.Stored.{width}
 use Rattle.words.specs.Part.{table}
 use Rattle.cases.specs.declared.Rule.{Rule}
@@ -13,9 +13,13 @@ use Rattle.cases.specs.declared.Case.{Case}
 use Rattle.cases.specs.Case.{mostPeople, mostSteps, mostRules, people, steps, tables, entry, zeroStep, zeroRule}
 use Rattle.cases.specs.Rules.{related}
 use Rattle.cases.specs.Plans.{may}
-use Rattle.boards.specs.Board.{relations, rows, stepSets}
+use Rattle.boards.specs.Board.{relations, rows, halfSteps, halves, places, halfStep}
 use Rattle.laying.specs.declared.Order.{Order}
 use Rattle.laying.specs.declared.Order.the-variants as order
+
+-- a board with nothing on it
+abbrev pub blankBoard : List ℕ
+blankBoard = replicate places 0
 
 -- a rule as one number: form, relation, step s and set X, one byte each from the lowest up
 unfoldable pub packed : Rule → ℕ
@@ -24,10 +28,6 @@ packed r = r .form + (r .relation * 256 + (r .step .0 * 65536 + r .group * 16777
 -- step x is one of the rule's steps
 unfoldable pub names : Rule → ℕ → Bool
 names r x = eqb (r .step .0) x || has (r .group) x
-
--- the steps of a rule, ascending
-unfoldable pub stepsOf : Rule → List ℕ
-stepsOf r = keep (names r) (upto mostSteps)
 
 module _ (c : Case) where
   -- u and v are people of the case, k is one of its relations, and (u, v) is in it
@@ -57,25 +57,18 @@ module _ (c : Case) where
   preceding order.Listed s = setOf (λ x. ltb x s) mostSteps
   preceding order.Chosen s = entry zeroStep (steps c) (c .steps) s .before
 
-  -- the same, none for a step that the case does not have
-  unfoldable pub beforeOf : Order → ℕ → ℕ
-  beforeOf o s = pick (ltb s (steps c)) (preceding o s) 0
-
   -- entry i of the rules, as one number
   unfoldable pub packedOf : ℕ → ℕ
   packedOf i = packed (entry zeroRule (c .counts .rules) (c .rules) i)
 
-  -- what is told of a set of steps of the case, 0 of any other
-  abbrev pub ofSteps : ℕ → ℕ → ℕ
-  ofSteps f told = pick (ltb f (2 ^ steps c)) told 0
-
-  -- the steps that may be filled next where those of f are filled: they are not in f, and those that must precede them are
+  -- entry j of a table by halves: the steps that no step of the half must precede but such as are in the entry's set
   unfoldable pub readyOf : Order → ℕ → ℕ
-  readyOf o f = ofSteps f (setOf (λ s. ltb s (steps c) && (not (has f s) && within mostSteps (preceding o s) f)) mostSteps)
+  readyOf o j = setOf (λ s. ltb s (steps c) && all (λ x. has j x || not (has (preceding o s) (halfStep j x))) (upto halfSteps)) mostSteps
 
-  -- the rules in use all of whose steps are in f
+  -- the rules in use that name no step of the half but such as are in the entry's set
   unfoldable pub completeOf : ℕ → ℕ
-  completeOf f = ofSteps f (setOf (λ i. ltb i (c .counts .rules) && all (has f) (stepsOf (getD (c .rules) i zeroRule))) mostRules)
+  completeOf j =
+      setOf (λ i. ltb i (c .counts .rules) && all (λ x. has j x || not (names (getD (c .rules) i zeroRule) (halfStep j x))) (upto halfSteps)) mostRules
 
   -- the board, part by part
   unfoldable pub laidOut : Order → List ℕ
@@ -84,5 +77,4 @@ module _ (c : Case) where
       ++ (table (λ i. columnOf (i / mostPeople) (i % mostPeople)) rows
       ++ (table loopsOf relations
       ++ (table allowedOf mostSteps
-      ++ (table namedOf mostSteps
-      ++ (table (beforeOf o) mostSteps ++ (table packedOf mostRules ++ (table (readyOf o) stepSets ++ table completeOf stepSets)))))))
+      ++ (table namedOf mostSteps ++ (table packedOf mostRules ++ (table (readyOf o) halves ++ table completeOf halves))))))

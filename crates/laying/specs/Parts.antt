@@ -5,17 +5,26 @@ use mathlib.Core.List.{List}
 use Prim.Native.Nat.{ℕ, zero, suc, _+_, _-_, _*_, _/_, _%_, _≤_, _<_}
 use lib.Dec.{eqb, leb, ltb}
 use lib.ListN.{length, getD}
-use Rattle.sets.specs.Lists.{pick, upto, all, any}
-use Rattle.sets.specs.Sets.{has, setOf, meets, within, everybody}
+use Rattle.sets.specs.Lists.{pick, upto, all}
+use Rattle.sets.specs.Sets.{has, setOf, meets, with, everybody}
 use Rattle.sets.specs.Stored.{width, setAt}
 use Rattle.words.specs.Part.{table}
+use Rattle.cases.specs.declared.Counts.{Counts}
 use Rattle.cases.specs.declared.Rule.{Rule}
 use Rattle.cases.specs.declared.StepEntry.{StepEntry}
-use Rattle.cases.specs.Case.{mostPeople, mostSteps, mostRoles, mostRules, zeroRule}
-use Rattle.boards.specs.Board.{places, rowPlace, namedPlace, beforePlace}
+use Rattle.cases.specs.Case.{mostPeople, mostSteps, mostRoles, mostRules, zeroStep, zeroRule}
+use Rattle.boards.specs.Board.{halfSteps, places, rowPlace, halfStep}
+use Rattle.laying.specs.declared.Sizes.{Sizes}
 use Rattle.laying.specs.declared.Order.{Order}
 use Rattle.laying.specs.declared.Order.the-variants as order
-use Rattle.laying.specs.Laid.{names}
+
+-- the sizes of a case with these counts
+pub record Sized (n : Counts) (z : Sizes) : Type 0 where
+  pub people : z .people ≡ n .people
+  pub kinds : z .kinds ≡ n .tables + 2
+  pub rows : z .rows ≡ n .tables * n .people
+  pub steps : z .steps ≡ n .steps
+  pub rules : z .rules ≡ n .rules
 
 -- ---- The rows, from the words of the tables' rows
 
@@ -29,17 +38,23 @@ relatedIn words n (suc (suc k)) u v = has (setAt words (k * n + u)) v
 unfoldable pub rowIn : List ℕ → ℕ → ℕ → ℕ → ℕ
 rowIn words n k u = setOf (λ v. ltb v n && relatedIn words n k u v) width
 
--- ---- What is read off the rows of a board, for n people
+-- ---- What is read off the rows of a board
 
--- the people u whose row in relation k has v; the column of v, which in the first two relations is v's own row; the people whose row has themselves
-unfoldable pub gatheredIn : List ℕ → ℕ → ℕ → ℕ → ℕ
-gatheredIn b n k v = setOf (λ u. ltb u n && has (setAt b (rowPlace k u)) v) width
+-- the people u whose row in relation k has v; the column of v, which in the first two relations is v's own row
+unfoldable pub gatheredIn : List ℕ → ℕ → ℕ → ℕ
+gatheredIn b k v = setOf (λ u. has (setAt b (rowPlace k u)) v) width
 
-unfoldable pub columnIn : List ℕ → ℕ → ℕ → ℕ → ℕ
-columnIn b n k v = pick (ltb k 2) (setAt b (rowPlace k v)) (gatheredIn b n k v)
+unfoldable pub columnIn : List ℕ → ℕ → ℕ → ℕ
+columnIn b k v = pick (ltb k 2) (setAt b (rowPlace k v)) (gatheredIn b k v)
 
-unfoldable pub loopsIn : List ℕ → ℕ → ℕ → ℕ
-loopsIn b n k = setOf (λ u. ltb u n && has (setAt b (rowPlace k u)) u) width
+-- the people whose row in relation k has themselves; of n people those in relation k with themselves
+unfoldable pub havingIn : List ℕ → ℕ → ℕ
+havingIn b k = setOf (λ u. has (setAt b (rowPlace k u)) u) width
+
+abbrev pub loopsIn : List ℕ → ℕ → ℕ → ℕ
+loopsIn b n zero = everybody width n
+loopsIn b n (suc zero) = 0
+loopsIn b n (suc (suc k)) = havingIn b (suc (suc k))
 
 -- ---- The other parts
 
@@ -47,32 +62,37 @@ loopsIn b n k = setOf (λ u. ltb u n && has (setAt b (rowPlace k u)) u) width
 unfoldable pub allowedIn : List ℕ → ℕ → ℕ → ℕ
 allowedIn held n wanted = setOf (λ u. ltb u n && meets mostRoles (getD held u 0) wanted) width
 
--- of n rules, those that name step s
-unfoldable pub namedIn : List Rule → ℕ → ℕ → ℕ
-namedIn rules n s = setOf (λ i. ltb i n && names (getD rules i zeroRule) s) mostRules
-
 -- the steps that must precede step s
 abbrev pub precedingIn : StepEntry → Order → ℕ → ℕ
 precedingIn step order.Listed s = setOf (λ x. ltb x s) mostSteps
 precedingIn step order.Chosen s = step .before
 
--- ---- What is read off the parts `named` and `before` of a board, for a set f of steps
+-- ---- What waits for a step; `on i` is the set of steps that i waits for
 
--- of n steps, those that are not in f, where those that must precede them are
-unfoldable pub readyIn : List ℕ → ℕ → ℕ → ℕ
-readyIn b n f = setOf (λ s. ltb s n && (not (has f s) && within mostSteps (getD b (beforePlace s) 0) f)) mostSteps
+-- the steps that rule i names, and those that must precede step s
+abbrev pub namedBy : List Rule → ℕ → ℕ
+namedBy rules i = with mostSteps (getD rules i zeroRule .group) (getD rules i zeroRule .step .0)
 
--- of a set of rules, those that name of the first n steps only such as are in f
-unfoldable pub namingOnly : List ℕ → ℕ → ℕ → ℕ → ℕ
-namingOnly b rules f n = setOf (λ i. has rules i && all (λ x. has f x || not (has (getD b (namedPlace x) 0) i)) (upto n)) mostRules
+abbrev pub precededBy : List StepEntry → Order → ℕ → ℕ
+precededBy chain o s = precedingIn (getD chain s zeroStep) o s
 
--- of n rules, those that name no step outside f
-unfoldable pub completeIn : List ℕ → ℕ → ℕ → ℕ
-completeIn b n f = namingOnly b (everybody mostRules n) f mostSteps
+-- of the first n, those that wait for step x
+unfoldable pub waitsIn : (ℕ → ℕ) → ℕ → ℕ → ℕ
+waitsIn on n x = setOf (λ i. has (on i) x && ltb i n) mostRules
 
--- the rules that name some step in g
-unfoldable pub namingSome : List ℕ → ℕ → ℕ
-namingSome b g = setOf (λ i. any (λ x. has g x && has (getD b (namedPlace x) 0) i) (upto mostSteps)) mostRules
+-- of words that have those that wait for each step, word x, with i put to it where x is in a set of steps
+abbrev pub waitingOn : List ℕ → ℕ → ℕ → ℕ → ℕ
+waitingOn waits on i x = pick (has on x) (with mostRules (getD waits x 0) i) (getD waits x 0)
+
+-- ---- A table by halves; word x of `waits` has those that wait for step x
+
+-- of a set, those that wait for none of the first n steps of entry j's half but such as are in the entry's set
+unfoldable pub freeIn : List ℕ → ℕ → ℕ → ℕ → ℕ
+freeIn waits whole j n = setOf (λ i. has whole i && all (λ x. has j x || not (has (getD waits (halfStep j x) 0) i)) (upto n)) mostRules
+
+-- entry j
+abbrev pub halfIn : List ℕ → ℕ → ℕ → ℕ
+halfIn waits whole j = freeIn waits whole j halfSteps
 
 -- ---- A board with a part put onto it
 
@@ -94,10 +114,15 @@ pub record Collected (test : ℕ → Bool) (w n set : ℕ) : Type 0 where
   pub upto : n ≤ w
   pub those : set ≡ setOf (λ u. test u && ltb u n) w
 
--- of the steps, n are gone through
-pub record Naming (b : List ℕ) (rules f n set : ℕ) : Type 0 where
-  pub upto : n ≤ mostSteps
-  pub those : set ≡ namingOnly b rules f n
+-- of those that wait, n are put
+pub record Waiting (on : ℕ → ℕ) (n : ℕ) (out : List ℕ) : Type 0 where
+  pub upto : n ≤ mostRules
+  pub so : out ≡ table (waitsIn on n) mostSteps
+
+-- of a half's steps, n are gone through
+pub record Halved (waits : List ℕ) (whole j n set : ℕ) : Type 0 where
+  pub upto : n ≤ halfSteps
+  pub those : set ≡ freeIn waits whole j n
 
 -- of n entries of a part, i are put
 pub record Put (a n : ℕ) (f : ℕ → ℕ) (l : List ℕ) (i : ℕ) (out : List ℕ) : Type 0 where

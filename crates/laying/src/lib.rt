@@ -1,43 +1,38 @@
 // Lays a case out as a board, once before a search. It knows what a case means and what stands where on a board; the searches know neither.
-// Each part is put onto the lent board by a function of its own, which takes what it reads and no case. Loops end at the case's counts, but for the two
-// over all steps (`put_named`, `complete`).
+// Each part is put onto the lent board by a function of its own, which takes what it reads. Loops end at the case's counts, but for those whose number of turns
+// is best known beforehand: over the steps, over the entries of a table by halves, and over the people whose rows a column is gathered from.
 use boards::ALLOWED;
-use boards::BEFORE;
 use boards::COLUMNS;
 use boards::COMPLETE;
+use boards::HALF_SETS;
+use boards::HALF_STEPS;
+use boards::HALVES;
 use boards::LOOPS;
 use boards::NAMED;
 use boards::PLACES;
 use boards::READY;
 use boards::RULES;
-use boards::STEP_SETS;
 use cases::Case;
+use cases::Counts;
 use cases::Rule;
-use cases::Step;
 use cases::StepEntry;
 use cases::with_step;
 use sets::People;
 use sets::holds;
-use sets::lowest_in;
 use sets::share;
 use sets::with;
-use sets::within;
-use sets::without;
-use words::both;
-use words::either;
 ghost use mathlib.Core.Path.{_≡_};
-ghost use Prim.Native.Nat.{_+_, _*_, _^_, _≤_, _<_};
-ghost use lib.Dec.{ltb};
+ghost use Prim.Native.Nat.{_+_, _*_, _≤_, _<_};
 ghost use lib.ListN.{getD};
 ghost use Rattle.sets.specs.Lists.{pick};
-ghost use Rattle.sets.specs.Sets.{with, joined, difference, everybody};
+ghost use Rattle.sets.specs.Sets.{has, with, difference, everybody};
 ghost use Rattle.sets.specs.Stored.{width, number, noPeople};
 ghost use Rattle.words.specs.Part.{table};
-ghost use Rattle.cases.specs.Case.{mostPeople, mostSteps, mostTables, mostRules, zeroStep, zeroRule, entry};
-ghost use Rattle.boards.specs.Board.{relations, stepSets, columnsFrom, loopsFrom, allowedFrom, namedFrom, beforeFrom, rulesFrom, readyFrom, completeFrom};
-ghost use Rattle.laying.specs.Laid.{packed, names, laidOut};
+ghost use Rattle.cases.specs.Case.{mostPeople, mostSteps, mostTables, mostRules, zeroStep, zeroRule};
+ghost use Rattle.boards.specs.Board.{relations, halves, columnsFrom, loopsFrom, allowedFrom, namedFrom, rulesFrom, places};
+ghost use Rattle.laying.specs.Laid.{packed, blankBoard, laidOut};
 ghost use Rattle.laying.specs.Ready.{Bounded};
-ghost use Rattle.laying.specs.Parts.{rowIn, gatheredIn, columnIn, loopsIn, allowedIn, namedIn, precedingIn, readyIn, namingOnly, completeIn, namingSome, laidFrom, laidBlocks};
+ghost use Rattle.laying.specs.Parts.{rowIn, gatheredIn, columnIn, havingIn, loopsIn, allowedIn, precedingIn, namedBy, precededBy, waitsIn, waitingOn, halfIn, laidFrom, laidBlocks, Sized};
 
 // In which order the steps are filled: as they are listed, or as the desk chooses among those whose preceding steps are filled.
 pub enum Order {
@@ -45,32 +40,60 @@ pub enum Order {
     Chosen,
 }
 
+// The counts that the loops end at: of people, relations, table rows, steps and rules.
+struct Sizes {
+    people: u8,
+    kinds: u8,
+    rows: usize,
+    steps: u8,
+    rules: u8,
+}
+
 // The board of a case.
 pub fn lay_out(c: Case, order: Order) -> [u32; PLACES]
     requires { ⌜ Bounded (c .counts) ⌝ }
     ensures { λ r. ⌜ r ≡ laidOut c order ⌝ }
 {
-    let counts = c.counts;
-    let people = capped(counts.people as u8, Case::PEOPLE as u8);
-    let kinds = capped(counts.tables as u8, Case::TABLES as u8) + 2;
-    let steps = capped(counts.steps as u8, Case::STEPS as u8);
-    let rules = capped(counts.rules as u8, Case::RULES as u8);
+    let mut board = [0u32; PLACES];
+    lay_onto(&mut board, c, order);
+    board
+}
+
+// Lays a case out on a blank board.
+pub fn lay_onto(board: &mut [u32; PLACES], c: Case, order: Order)
+    requires { ⌜ Bounded (c .counts) × (now board ≡ blankBoard) ⌝ }
+    ensures { λ _. ⌜ now (board .exit) ≡ laidOut c order ⌝ }
+{
+    let n = sizes_of(c.counts);
     let held = c.people;
     let chain = c.steps;
     let listed = c.rules;
-    let rows = c.rows;
-    let words = table_words(rows, (counts.tables as usize) * (counts.people as usize));
-    let mut board = [0u32; PLACES];
-    put_rows(&mut board, &words, people, kinds);
-    put_columns(&mut board, people, kinds);
-    put_loops(&mut board, people, kinds);
-    put_allowed(&mut board, &held, people, chain, steps);
-    put_named(&mut board, listed, rules);
-    put_before(&mut board, chain, steps, order);
-    put_rules(&mut board, listed, rules);
-    put_ready(&mut board, steps);
-    put_complete(&mut board, steps, rules);
-    board
+    let mut words = [0u32; Case::ROWS];
+    put_table_words(&mut words, c, n.rows);
+    let named = named_words(listed, n.rules);
+    let following = following_words(chain, order, n.steps);
+    put_rows(board, &words, n.people, n.kinds);
+    put_columns(board, n.people, n.kinds);
+    put_loops(board, n.people, n.kinds);
+    put_allowed(board, &held, n.people, chain, n.steps);
+    put_named(board, &named);
+    put_rules(board, listed, n.rules);
+    put_halves(board, READY as u16, &following, first_of(n.steps));
+    put_halves(board, COMPLETE as u16, &named, first_of(n.rules));
+}
+
+// The sizes of a case with these counts.
+fn sizes_of(n: Counts) -> Sizes
+    requires { ⌜ Bounded n ⌝ }
+    ensures { λ r. ⌜ Sized n r ⌝ }
+{
+    Sizes {
+        people: capped(n.people as u8, Case::PEOPLE as u8),
+        kinds: capped(n.tables as u8, Case::TABLES as u8) + 2,
+        rows: (n.tables as usize) * (n.people as usize),
+        steps: capped(n.steps as u8, Case::STEPS as u8),
+        rules: capped(n.rules as u8, Case::RULES as u8),
+    }
 }
 
 // A count, which is within its limit: seen to be, so that no turn of a loop up to it tests its place.
@@ -81,19 +104,29 @@ fn capped(n: u8, most: u8) -> u8
     if n < most { n } else { most }
 }
 
-// The words of the first n table rows, 0 past them.
-fn table_words(rows: [People; Case::ROWS], n: usize) -> [u32; Case::ROWS]
+// Puts the words of a case's first n table rows. Without a table no row is copied.
+fn put_table_words(out: &mut [u32; Case::ROWS], c: Case, n: usize)
     requires { ⌜ n ≤ mostTables * mostPeople ⌝ }
-    ensures { λ r. ⌜ r ≡ table (λ i. number (entry noPeople n rows i)) (mostTables * mostPeople) ⌝ }
+    ensures { λ _. ⌜ now (out .exit) ≡ laidFrom 0 n (λ i. number (getD (c .rows) i noPeople)) (now (out .entry)) ⌝ }
 {
-    let mut out = [0u32; Case::ROWS];
+    if n == 0 {
+        return;
+    }
+    let rows = c.rows;
+    put_words(out, rows, n);
+}
+
+// Puts the words of the first n of these rows.
+fn put_words(out: &mut [u32; Case::ROWS], rows: [People; Case::ROWS], n: usize)
+    requires { ⌜ n ≤ mostTables * mostPeople ⌝ }
+    ensures { λ _. ⌜ now (out .exit) ≡ laidFrom 0 n (λ i. number (getD rows i noPeople)) (now (out .entry)) ⌝ }
+{
     let mut i = 0;
     while i < n {
         let row = rows[i];
         out[i] = row.word();
         i += 1;
     }
-    out
 }
 
 // The rows, relation by relation.
@@ -137,7 +170,7 @@ fn row(words: &[u32; Case::ROWS], people: u8, k: u8, u: u8) -> People
 // The columns, relation by relation, read off the rows.
 fn put_columns(board: &mut [u32; PLACES], people: u8, kinds: u8)
     requires { ⌜ (people ≤ mostPeople) × (kinds ≤ relations) ⌝ }
-    ensures { λ _. ⌜ now (board .exit) ≡ laidBlocks columnsFrom kinds people (columnIn (now (board .entry)) people) (now (board .entry)) ⌝ }
+    ensures { λ _. ⌜ now (board .exit) ≡ laidBlocks columnsFrom kinds people (columnIn (now (board .entry))) (now (board .entry)) ⌝ }
 {
     let mut k: u8 = 0;
     while k < kinds {
@@ -149,35 +182,33 @@ fn put_columns(board: &mut [u32; PLACES], people: u8, kinds: u8)
 // The columns of relation k, one for each person.
 fn put_column(board: &mut [u32; PLACES], people: u8, k: u8)
     requires { ⌜ (people ≤ mostPeople) × (k < relations) ⌝ }
-    ensures { λ _. ⌜ now (board .exit) ≡ laidFrom (columnsFrom + k * mostPeople) people (columnIn (now (board .entry)) people k) (now (board .entry)) ⌝ }
+    ensures { λ _. ⌜ now (board .exit) ≡ laidFrom (columnsFrom + k * mostPeople) people (columnIn (now (board .entry)) k) (now (board .entry)) ⌝ }
 {
     let mut v: u8 = 0;
     while v < people {
-        let set = column(board, people, k, v);
+        let set = column(board, k, v);
         board[COLUMNS + (k as usize) * Case::PEOPLE + (v as usize)] = set.word();
         v += 1;
     }
 }
 
 // The column of person v in relation k: their row where the relation is the same both ways, as "same person" and "different person" are.
-fn column(board: &[u32; PLACES], people: u8, k: u8, v: u8) -> People
-    requires { ⌜ people ≤ mostPeople ⌝ }
-    ensures { λ r. ⌜ number r ≡ columnIn (now (board .entry)) people k v ⌝ }
+fn column(board: &[u32; PLACES], k: u8, v: u8) -> People
+    ensures { λ r. ⌜ number r ≡ columnIn (now (board .entry)) k v ⌝ }
 {
     if k < 2 {
         return People::at(board, (k as usize) * Case::PEOPLE + (v as usize));
     }
-    gathered(board, people, k, v)
+    gathered(board, k, v)
 }
 
 // The people whose row in relation k has v.
-fn gathered(board: &[u32; PLACES], people: u8, k: u8, v: u8) -> People
-    requires { ⌜ people ≤ mostPeople ⌝ }
-    ensures { λ r. ⌜ number r ≡ gatheredIn (now (board .entry)) people k v ⌝ }
+fn gathered(board: &[u32; PLACES], k: u8, v: u8) -> People
+    ensures { λ r. ⌜ number r ≡ gatheredIn (now (board .entry)) k v ⌝ }
 {
     let mut set = People::none();
     let mut u: u8 = 0;
-    while u < people {
+    while (u as usize) < Case::PEOPLE {
         let row = People::at(board, (k as usize) * Case::PEOPLE + (u as usize));
         set = with_if(set, u, row.has(v));
         u += 1;
@@ -185,9 +216,9 @@ fn gathered(board: &[u32; PLACES], people: u8, k: u8, v: u8) -> People
     set
 }
 
-// For each relation the people who are in it with themselves, read off the rows.
+// For each relation the people who are in it with themselves.
 fn put_loops(board: &mut [u32; PLACES], people: u8, kinds: u8)
-    requires { ⌜ (people ≤ mostPeople) × (kinds ≤ relations) ⌝ }
+    requires { ⌜ kinds ≤ relations ⌝ }
     ensures { λ _. ⌜ now (board .exit) ≡ laidFrom loopsFrom kinds (loopsIn (now (board .entry)) people) (now (board .entry)) ⌝ }
 {
     let mut k: u8 = 0;
@@ -198,14 +229,24 @@ fn put_loops(board: &mut [u32; PLACES], people: u8, kinds: u8)
     }
 }
 
-// The people whose row in relation k has themselves.
+// The people who are in relation k with themselves: everybody is the same person, nobody a different one, and the tables say it by their rows.
 fn loops(board: &[u32; PLACES], people: u8, k: u8) -> People
-    requires { ⌜ people ≤ mostPeople ⌝ }
     ensures { λ r. ⌜ number r ≡ loopsIn (now (board .entry)) people k ⌝ }
+{
+    match k {
+        0 => People::everybody(people),
+        1 => People::none(),
+        _ => having_themselves(board, k),
+    }
+}
+
+// The people whose row in relation k has themselves.
+fn having_themselves(board: &[u32; PLACES], k: u8) -> People
+    ensures { λ r. ⌜ number r ≡ havingIn (now (board .entry)) k ⌝ }
 {
     let mut set = People::none();
     let mut u: u8 = 0;
-    while u < people {
+    while (u as usize) < Case::PEOPLE {
         let own = People::at(board, (k as usize) * Case::PEOPLE + (u as usize));
         set = with_if(set, u, own.has(u));
         u += 1;
@@ -247,50 +288,54 @@ fn allowed(held: &[u16; Case::PEOPLE], people: u8, wanted: u16) -> People
 }
 
 // For each step the rules that name it.
-fn put_named(board: &mut [u32; PLACES], rules: [Rule; Case::RULES], n: u8)
-    requires { ⌜ n ≤ mostRules ⌝ }
-    ensures { λ _. ⌜ now (board .exit) ≡ laidFrom namedFrom mostSteps (namedIn rules n) (now (board .entry)) ⌝ }
+fn put_named(board: &mut [u32; PLACES], named: &[u32; Case::STEPS])
+    ensures { λ _. ⌜ now (board .exit) ≡ laidFrom namedFrom mostSteps (λ s. getD (now (named .entry)) s 0) (now (board .entry)) ⌝ }
 {
     let mut s: u8 = 0;
     while (s as usize) < Case::STEPS {
-        board[NAMED + (s as usize)] = named(rules, n, s);
+        board[NAMED + (s as usize)] = named[s as usize];
         s += 1;
     }
 }
 
-// Of the first n rules those that name step s.
-fn named(rules: [Rule; Case::RULES], n: u8, s: u8) -> u32
+// For each step those of the first n rules that name it.
+fn named_words(rules: [Rule; Case::RULES], n: u8) -> [u32; Case::STEPS]
     requires { ⌜ n ≤ mostRules ⌝ }
-    ensures { λ r. ⌜ r ≡ namedIn rules n s ⌝ }
+    ensures { λ r. ⌜ r ≡ table (waitsIn (namedBy rules) n) mostSteps ⌝ }
 {
-    let mut set: u32 = 0;
+    let mut out = [0u32; Case::STEPS];
     let mut i: u8 = 0;
     while i < n {
         let rule = rules[i as usize];
-        set = with_rule_if(set, i, names(rule, s));
+        wait(&mut out, with_step(rule.group, rule.step), i);
         i += 1;
     }
-    set
+    out
 }
 
-// Does a rule name step s?
-fn names(rule: Rule, s: u8) -> bool
-    ensures { λ r. ⌜ r ≡ names rule s ⌝ }
-{
-    let own = rule.step.0;
-    either(own == s, holds(rule.group as u16, s))
-}
-
-// For each step those that must precede it.
-fn put_before(board: &mut [u32; PLACES], steps: [StepEntry; Case::STEPS], n: u8, order: Order)
+// For each step those of the first n steps that it must precede.
+fn following_words(steps: [StepEntry; Case::STEPS], order: Order, n: u8) -> [u32; Case::STEPS]
     requires { ⌜ n ≤ mostSteps ⌝ }
-    ensures { λ _. ⌜ now (board .exit) ≡ laidFrom beforeFrom n (λ s. precedingIn (getD steps s zeroStep) order s) (now (board .entry)) ⌝ }
+    ensures { λ r. ⌜ r ≡ table (waitsIn (precededBy steps order) n) mostSteps ⌝ }
 {
+    let mut out = [0u32; Case::STEPS];
     let mut s: u8 = 0;
     while s < n {
         let entry = steps[s as usize];
-        board[BEFORE + (s as usize)] = before(entry, order, s) as u32;
+        wait(&mut out, before(entry, order, s), s);
         s += 1;
+    }
+    out
+}
+
+// Puts i to those that wait for each step of a set.
+fn wait(waits: &mut [u32; Case::STEPS], on: u8, i: u8)
+    ensures { λ _. ⌜ now (waits .exit) ≡ laidFrom 0 mostSteps (waitingOn (now (waits .entry)) on i) (now (waits .entry)) ⌝ }
+{
+    let mut x: u8 = 0;
+    while (x as usize) < Case::STEPS {
+        waits[x as usize] = with_if_in(waits[x as usize], i, on, x);
+        x += 1;
     }
 }
 
@@ -327,87 +372,39 @@ fn pack(rule: Rule) -> u32
         + ((rule.relation as u32) * 256 + ((step as u32) * 65536 + (rule.group as u32) * 16777216))
 }
 
-// For each set of the n steps those that may be filled next where these are filled.
-fn put_ready(board: &mut [u32; PLACES], n: u8)
-    requires { ⌜ n ≤ mostSteps ⌝ }
-    ensures { λ _. ⌜ now (board .exit) ≡ laidFrom readyFrom (2 ^ n) (readyIn (now (board .entry)) n) (now (board .entry)) ⌝ }
+// A table by halves, from a place on: `waits` has for each step those that wait for it, of all that there are.
+fn put_halves(board: &mut [u32; PLACES], start: u16, waits: &[u32; Case::STEPS], whole: u32)
+    requires { ⌜ start + halves ≤ places ⌝ }
+    ensures { λ _. ⌜ now (board .exit) ≡ laidFrom start halves (halfIn (now (waits .entry)) whole) (now (board .entry)) ⌝ }
 {
-    let many: u16 = 1 << n;
-    let mut f: u16 = 0;
-    while f < many {
-        let set = ready(board, n, f);
-        board[READY + (f as usize)] = set as u32;
-        f += 1;
+    let mut j: u8 = 0;
+    while (j as usize) < HALVES {
+        board[(start as usize) + (j as usize)] = half(waits, whole, j);
+        j += 1;
     }
 }
 
-// Of the n steps those that are not in f, where those that must precede them are.
-fn ready(board: &[u32; PLACES], n: u8, f: u16) -> u8
-    requires { ⌜ n ≤ mostSteps ⌝ }
-    ensures { λ r. ⌜ r ≡ readyIn (now (board .entry)) n f ⌝ }
+// Entry j of a table by halves: those that wait for no step of its half but such as are in its set.
+fn half(waits: &[u32; Case::STEPS], whole: u32, j: u8) -> u32
+    requires { ⌜ j < halves ⌝ }
+    ensures { λ r. ⌜ r ≡ halfIn (now (waits .entry)) whole j ⌝ }
 {
-    let end = capped(n, Case::STEPS as u8);
-    let mut set: u8 = 0;
-    let mut s: u8 = 0;
-    while s < end {
-        let before = board[BEFORE + (s as usize)] % (STEP_SETS as u32);
-        set = with_step_if(set, s, both(!holds(f, s), within(before, f as u32)));
-        s += 1;
+    let first = j / (HALF_SETS as u8) * (HALF_STEPS as u8);
+    let mut set = whole;
+    let mut x: u8 = 0;
+    while (x as usize) < HALF_STEPS {
+        set = less_unless(set, waits[(first + x) as usize], holds(j as u16, x));
+        x += 1;
     }
     set
 }
 
-// For each set of the n steps the rules in use that name no other step: those that name none but the n, less those that name one not in the set.
-fn put_complete(board: &mut [u32; PLACES], n: u8, rules: u8)
-    requires { ⌜ (n ≤ mostSteps) × (rules ≤ mostRules) ⌝ }
-    ensures { λ _. ⌜ now (board .exit) ≡ laidFrom completeFrom (2 ^ n) (completeIn (now (board .entry)) rules) (now (board .entry)) ⌝ }
-{
-    let used = first_rules(rules);
-    let many: u16 = 1 << n;
-    let all = complete(board, used, many - 1);
-    let named = named_by(board, many);
-    let mut f: u16 = 0;
-    while f < many {
-        board[COMPLETE + (f as usize)] = less(all, named[(many - 1 - f) as usize]);
-        f += 1;
-    }
-}
-
-// For each set of steps below `many` the rules that name one of them: its lowest, or another.
-fn named_by(board: &[u32; PLACES], many: u16) -> [u32; STEP_SETS]
-    requires { ⌜ (0 < many) × (many ≤ stepSets) ⌝ }
-    ensures { λ r. ⌜ r ≡ table (λ g. pick (ltb g many) (namingSome (now (board .entry)) g) 0) stepSets ⌝ }
-{
-    let mut out = [0u32; STEP_SETS];
-    let mut g: u16 = 1;
-    while g < many {
-        let s = lowest_in(g as u32);
-        let rest = without(g as u32, s);
-        out[g as usize] = joined(out[rest as usize], board[NAMED + (s as usize)]);
-        g += 1;
-    }
-    out
-}
-
-// The first n rules.
-fn first_rules(n: u8) -> u32
+// The first n of 32, as a set.
+fn first_of(n: u8) -> u32
     requires { ⌜ n ≤ mostRules ⌝ }
     ensures { λ r. ⌜ r ≡ everybody mostRules n ⌝ }
 {
     if n < 32 { (1 << n) - 1 } else { u32::MAX }
-}
-
-// Of the rules in use those that name no step outside f.
-fn complete(board: &[u32; PLACES], used: u32, f: u16) -> u32
-    ensures { λ r. ⌜ r ≡ namingOnly (now (board .entry)) used f mostSteps ⌝ }
-{
-    let mut set = used;
-    let mut s: u8 = 0;
-    while (s as usize) < Case::STEPS {
-        set = less_unless(set, board[NAMED + (s as usize)], holds(f, s));
-        s += 1;
-    }
-    set
 }
 
 // The set with person u, where they are wanted.
@@ -417,18 +414,15 @@ fn with_if(set: People, u: u8, wanted: bool) -> People
     if wanted { set.with(u) } else { set }
 }
 
-// The set with rule i, where it is wanted.
-fn with_rule_if(set: u32, i: u8, wanted: bool) -> u32
-    ensures { λ r. ⌜ r ≡ pick wanted (with mostRules set i) set ⌝ }
+// The set with i, where x is one of the steps.
+fn with_if_in(set: u32, i: u8, steps: u8, x: u8) -> u32
+    ensures { λ r. ⌜ r ≡ pick (has steps x) (with mostRules set i) set ⌝ }
 {
-    if wanted { with(set, i) } else { set }
-}
-
-// The set of steps with step s, where it is wanted.
-fn with_step_if(set: u8, s: u8, wanted: bool) -> u8
-    ensures { λ r. ⌜ r ≡ pick wanted (with mostSteps set s) set ⌝ }
-{
-    if wanted { with_step(set, Step(s)) } else { set }
+    if holds(steps as u16, x) {
+        with(set, i)
+    } else {
+        set
+    }
 }
 
 // The set without those that are gone, unless they stay.
@@ -443,11 +437,4 @@ fn less(set: u32, gone: u32) -> u32
     ensures { λ r. ⌜ r ≡ difference mostRules set gone ⌝ }
 {
     set & !gone
-}
-
-// The rules in either set.
-fn joined(a: u32, b: u32) -> u32
-    ensures { λ r. ⌜ r ≡ joined mostRules a b ⌝ }
-{
-    a | b
 }

@@ -12,13 +12,12 @@ use lib.Dec.{eqb, ltb}
 use lib.ListN.{getD}
 use lib.Pow.{pow-mono}
 use Rattle.sets.specs.Lists.{pick, _∈_, upto, keep, all}
-use Rattle.sets.specs.Sets.{has, setOf, members, with, within}
+use Rattle.sets.specs.Sets.{has, setOf, members, with}
 use Rattle.sets.specs.Stored.{width, setAt}
 use Rattle.sets.proofs.Lists.{and-true, true-and, true-or, upto-in, upto-mem, keep-in, keep-mem, keep-cong, all-mem, mem-all, all-cong}
-use Rattle.sets.proofs.Bits.{has-beyond, has-empty}
+use Rattle.sets.proofs.Bits.{has-beyond}
 use Rattle.sets.proofs.Counting.{setOf-lt, has-setOf, set-ext}
 use Rattle.sets.proofs.Members.{members-in, members-mem}
-use Rattle.sets.proofs.Listed.{within-mem, mem-within}
 use Rattle.cases.specs.declared.Rule.{Rule}
 use Rattle.cases.specs.declared.Case.{Case}
 use Rattle.cases.specs.declared.Filled.{Filled}
@@ -28,13 +27,13 @@ use Rattle.cases.specs.Plans.{may}
 use Rattle.cases.specs.Filled.{whoIn, filledWith, whoWith}
 use Rattle.cases.proofs.Rules.{needed-cong}
 use Rattle.cases.proofs.Rounds.{may-known, entry-at}
-use Rattle.boards.specs.Board.{relations, stepSets, rowPlace, readyPlace, unpacked, allowedOn, namedOn, completeOn, ruleOn, readyOn, fullOn, dueOn, pairOn, keptOn, fitsOn}
+use Rattle.boards.specs.Board.{relations, readyFrom, completeFrom, rowPlace, unpacked, allowedOn, namedOn, bothOn, completeOn, ruleOn, readyOn, fullOn, dueOn, pairOn, keptOn, fitsOn}
+use Rattle.boards.proofs.Halves.{steps-low, both-told}
 use Rattle.boards.proofs.Pairs.{pair-as}
 use Rattle.laying.specs.declared.Order.{Order}
-use Rattle.laying.specs.Laid.{packed, names, pairOf, rowOf, columnOf, loopsOf, stepsOf, allowedOf, namedOf, preceding, packedOf, readyOf, completeOf, laidOut}
+use Rattle.laying.specs.Laid.{packed, names, pairOf, rowOf, columnOf, loopsOf, allowedOf, namedOf, preceding, packedOf, readyOf, completeOf, laidOut}
 use Rattle.laying.specs.Ready.{ReadyRule, Ready}
-use Rattle.laying.proofs.Tests.{same, all-map}
-use Rattle.laying.proofs.OffSets.{steps-low, sets-few}
+use Rattle.laying.proofs.Tests.{same, all-keep, all-map}
 use Rattle.meaning.specs.Sound.{Sound}
 use Rattle.laying.proofs.Places.{row-at, column-at, loops-at, allowed-at, named-at, rule-at, ready-at, complete-at}
 
@@ -66,16 +65,9 @@ module _ (r : Rule) (f : r .form < 256) (k : r .relation < 256) (s : r .step .0 
 -- ---- sets of steps
 
 -- of a set of steps only as many bits are looked at as there are steps
-steps-alike : (g : ℕ) → stepsIn (g % stepSets) ≡ stepsIn g
+steps-alike : (g : ℕ) → stepsIn (g % 2 ^ mostSteps) ≡ stepsIn g
 unfolding stepsIn members
-steps-alike g = keep-cong (has (g % stepSets)) (has g) (upto mostSteps) (λ x m. steps-low g x (upto-in mostSteps x m))
-
-within-steps : (g f : ℕ) → within mostSteps g f ≡ all (has f) (stepsIn g)
-unfolding stepsIn
-within-steps g f =
-    same (within mostSteps g f) (all (has f) (members mostSteps g))
-    (λ e. mem-all (has f) (members mostSteps g) (λ x m. let k = members-in mostSteps g x m in within-mem mostSteps g f e x (k .0) (k .1)))
-    (λ e. mem-within mostSteps g f (λ x l h. all-mem (has f) (members mostSteps g) e x (members-mem mostSteps g x l h)))
+steps-alike g = keep-cong (has (g % 2 ^ mostSteps)) (has g) (upto mostSteps) (λ x m. steps-low g x (upto-in mostSteps x m))
 
 -- a set none of whose members is past n
 pub no-more : (w n s : ℕ) → n ≤ w → s < 2 ^ w → ((v : ℕ) → n ≤ v → v < w → has s v ≡ false) → s < 2 ^ n
@@ -93,10 +85,11 @@ no-more w n s h small none =
 -- ---- the steps of a rule
 
 -- they are s and X
-steps-filled : (r : Rule) (isFilled : ℕ → Bool) → r .step .0 < mostSteps → all isFilled (stepsOf r) ≡ filled r isFilled
-unfolding stepsOf names filled stepsIn
+steps-filled : (r : Rule) (isFilled : ℕ → Bool) → r .step .0 < mostSteps → all (λ x. isFilled x || not (names r x)) (upto mostSteps) ≡ filled r isFilled
+unfolding names filled stepsIn
 steps-filled r isFilled small =
-    same (all isFilled (keep (names r) (upto mostSteps))) (isFilled s && all isFilled (members mostSteps (r .group)))
+    sym (all-keep isFilled (names r) (upto mostSteps))
+    ∙ same (all isFilled (keep (names r) (upto mostSteps))) (isFilled s && all isFilled (members mostSteps (r .group)))
     (λ e. true-and (isFilled s) (all isFilled (members mostSteps (r .group)))
     (all-mem isFilled (keep (names r) (upto mostSteps)) e s
     (keep-mem (names r) s (upto mostSteps) (upto-mem mostSteps s small) (ap (λ (d : Bool). d || has (r .group) s) (eq-eqb s s refl))))
@@ -135,36 +128,31 @@ module _ (c : Case) (o : Order) where
 
     -- ---- which steps may be filled next
 
-    -- a set of steps of the case has its place
-    placed-set : (f : ℕ) → f < 2 ^ steps c → f < stepSets
-    placed-set f h = omega (arith, sets-few (steps c) (ready .counts .steps))
-
-    -- what the board tells of a step where the steps of p are filled
-    pub ready-told : (p : Filled) → p .steps < stepSets → (s : ℕ) → s < mostSteps
-        → has (readyOn b p) s
-        ≡ ltb (p .steps) (2 ^ steps c) && (ltb s (steps c) && (not (has (p .steps) s) && all (has (p .steps)) (stepsIn (preceding c o s))))
-    unfolding readyOn readyOf
-    ready-told p small s l =
-        let low : p .steps % stepSets ≡ p .steps = omega arith in
-        ap (λ (f : ℕ). has (getD b (readyPlace f) 0 % stepSets) s) low
-        ∙ steps-low (getD b (readyPlace (p .steps)) 0) s l
-        ∙ ap (λ (z : ℕ). has z s) (ready-at c o (p .steps) small) ∙ go (ltb (p .steps) (2 ^ steps c))
-        ∙ ap (λ (d : Bool). ltb (p .steps) (2 ^ steps c) && (ltb s (steps c) && (not (has (p .steps) s) && d))) (within-steps (preceding c o s) (p .steps))
-      where
-        test : ℕ → Bool
-        test = λ x. ltb x (steps c) && (not (has (p .steps) x) && within mostSteps (preceding c o x) (p .steps))
-
-        go : (d : Bool) → has (pick d (setOf test mostSteps) 0) s ≡ d && test s
-        go true = has-setOf test mostSteps s l
-        go false = has-empty s
-
     -- a step of the case that is not filled, where those that must precede it are
-    pub ready-means : (p : Filled) → Sound c p → (s : ℕ) → s < mostSteps
+    pub ready-means : (p : Filled) (s : ℕ) → s < mostSteps
         → has (readyOn b p) s ≡ ltb s (steps c) && (not (has (p .steps) s) && all (has (p .steps)) (stepsIn (preceding c o s)))
-    ready-means p sound s l =
-        ready-told p (placed-set (p .steps) (sound .listed)) s l
-        ∙ ap (λ (d : Bool). d && (ltb s (steps c) && (not (has (p .steps) s) && all (has (p .steps)) (stepsIn (preceding c o s)))))
-        (lt-ltb (p .steps) (2 ^ steps c) (sound .listed))
+    unfolding readyOn readyOf stepsIn members
+    ready-means p s l =
+        has-setOf (λ x. has (bothOn b readyFrom (p .steps)) x && not (has (p .steps) x)) mostSteps s l
+        ∙ ap (λ (d : Bool). d && not (has (p .steps) s))
+        (both-told b readyFrom (p .steps) s (omega arith) (ltb s (steps c)) (has (preceding c o s)) (λ j h. ap (λ (z : ℕ). has z s) (ready-at c o j h) ∙ has-setOf _ mostSteps s l))
+        ∙ turned (ltb s (steps c)) _ (not (has (p .steps) s))
+        ∙ ap (λ (d : Bool). ltb s (steps c) && (not (has (p .steps) s) && d)) (sym (all-keep (has (p .steps)) (has (preceding c o s)) (upto mostSteps)))
+      where
+        turned : (x y z : Bool) → (x && y) && z ≡ x && (z && y)
+        turned true true true = refl
+        turned true true false = refl
+        turned true false true = refl
+        turned true false false = refl
+        turned false y z = refl
+
+    -- a rule in use all of whose steps are in f
+    pub complete-means : (f i : ℕ) → i < mostRules
+        → has (completeOn b f) i ≡ ltb i (c .counts .rules) && all (λ x. has f x || not (names (getD (c .rules) i zeroRule) x)) (upto mostSteps)
+    unfolding completeOn completeOf
+    complete-means f i l =
+        both-told b completeFrom f i l (ltb i (c .counts .rules)) (names (getD (c .rules) i zeroRule))
+        (λ j h. ap (λ (z : ℕ). has z i) (complete-at c o j h) ∙ has-setOf _ mostRules i l)
 
     -- ---- with whom a rule is kept
 
@@ -345,22 +333,15 @@ module _ (c : Case) (o : Order) where
       then-has : (x : ℕ) → x < mostSteps → has then-filled x ≡ filledWith p s x
       then-has x l = has-setOf (λ w. has (p .steps) w || eqb w s) mostSteps x l
 
-      then-listed : then-filled < 2 ^ steps c
-      then-listed =
-          no-more mostSteps (steps c) then-filled (ready .counts .steps) (setOf-lt (λ w. has (p .steps) w || eqb w s) mostSteps)
-          (λ v h l. then-has v l ∙ ap₂ _||_ (has-beyond (steps c) (p .steps) v (sound .listed) h) (ne-eqb v s (λ e. omega arith)))
-
       abbrev isNamed : ℕ → Bool
       isNamed i = ltb i (c .counts .rules) && names (rule i) s
 
       abbrev isFull : ℕ → Bool
-      isFull i = ltb i (c .counts .rules) && all (has then-filled) (stepsOf (rule i))
+      isFull i = ltb i (c .counts .rules) && all (λ x. has then-filled x || not (names (rule i) x)) (upto mostSteps)
 
-      full-is : fullOn b p s ≡ setOf isFull mostRules
-      unfolding fullOn completeOn completeOf
-      full-is =
-          complete-at c o then-filled (placed-set then-filled then-listed)
-          ∙ ap (λ (d : Bool). pick d (setOf isFull mostRules) 0) (lt-ltb then-filled (2 ^ steps c) then-listed)
+      full-is : (i : ℕ) → i < mostRules → has (fullOn b p s) i ≡ isFull i
+      unfolding fullOn
+      full-is = complete-means then-filled
 
       named-is : namedOn b s ≡ setOf isNamed mostRules
       unfolding namedOn namedOf
@@ -373,13 +354,11 @@ module _ (c : Case) (o : Order) where
       unfolding dueOn
       due-has i l =
           has-setOf (λ j. has (namedOn b s) j && has (fullOn b p s) j) mostRules i l
-          ∙ ap₂ _&&_ (ap (λ (z : ℕ). has z i) named-is ∙ has-setOf isNamed mostRules i l) (ap (λ (z : ℕ). has z i) full-is ∙ has-setOf isFull mostRules i l)
+          ∙ ap₂ _&&_ (ap (λ (z : ℕ). has z i) named-is ∙ has-setOf isNamed mostRules i l) (full-is i l)
 
-      full-means : (i : ℕ) → i < c .counts .rules → all (has then-filled) (stepsOf (rule i)) ≡ filled (rule i) (filledWith p s)
-      unfolding stepsOf
+      full-means : (i : ℕ) → i < c .counts .rules → all (λ x. has then-filled x || not (names (rule i) x)) (upto mostSteps) ≡ filled (rule i) (filledWith p s)
       full-means i listed =
-          all-cong (has then-filled) (filledWith p s) (keep (names (rule i)) (upto mostSteps))
-          (λ x m. then-has x (upto-in mostSteps x (keep-in (names (rule i)) x (upto mostSteps) m .0)))
+          all-cong _ _ (upto mostSteps) (λ x m. ap (λ (d : Bool). d || not (names (rule i) x)) (then-has x (upto-in mostSteps x m)))
           ∙ steps-filled (rule i) (filledWith p s) (omega (arith, ready .each i listed .step, ready .counts .steps))
 
       -- ---- with whom every rule is kept
@@ -408,7 +387,7 @@ module _ (c : Case) (o : Order) where
               let full = full-means i l ∙ r in
               let k = due-has i small
               ∙ true-and (isNamed i) (isFull i) (true-and (ltb i (c .counts .rules)) (names (rule i) s) used q)
-              (true-and (ltb i (c .counts .rules)) (all (has then-filled) (stepsOf (rule i))) used full) in
+              (true-and (ltb i (c .counts .rules)) (all (λ x. has then-filled x || not (names (rule i) x)) (upto mostSteps)) used full) in
               ap (λ (x : Bool). not x || kept c (rule i) who) r ∙ sym (kept-means i l r)
               ∙ all-mem (λ j. keptOn b p s (ruleOn b j) u) (members mostRules due) d i (members-mem mostRules due i small k)
 
@@ -416,7 +395,7 @@ module _ (c : Case) (o : Order) where
       one-kept h i m =
           let k = members-in mostRules due i m in
           let full = and-true (isNamed i) (isFull i) (sym (due-has i (k .0)) ∙ k .1) .1 in
-          let a = and-true (ltb i (c .counts .rules)) (all (has then-filled) (stepsOf (rule i))) full in
+          let a = and-true (ltb i (c .counts .rules)) (all (λ x. has then-filled x || not (names (rule i) x)) (upto mostSteps)) full in
           let l = ltb-true i (c .counts .rules) (a .0) in
           let r = sym (full-means i l) ∙ a .1 in
           kept-means i l r ∙ sym (ap (λ (x : Bool). not x || kept c (rule i) who) r)

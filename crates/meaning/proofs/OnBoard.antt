@@ -84,7 +84,7 @@ module _ (c : Case) (ready : Ready c) where
         keep-cong (λ s. has (readyOn listedBoard (filledBy p)) s && has (allowedOn listedBoard s) u) test (upto 8)
         (λ s m.
         let l = upto-in 8 s m in
-        ap₂ _&&_ (listed-ready c ready (filledBy p) (valid-sound c p v ready) (length p) s (λ x k. filled-steps p short x) l) (allowed-means c order.Listed ready s u l))
+        ap₂ _&&_ (listed-ready c ready (filledBy p) (length p) s (λ x k. filled-steps p short x) l) (allowed-means c order.Listed ready s u l))
         ∙ go (may c u (length p)) refl
       where
         test : ℕ → Bool

@@ -2,7 +2,7 @@
 -- one that is ready.
 use mathlib.Core.Path.{_≡_, refl, sym, ap, ap₂, _∙_}
 use mathlib.Core.Bool.{Bool, true, false, not, _&&_, _||_, true≢false}
-use Prim.Native.Nat.{ℕ, _^_, _≤_, _<_}
+use Prim.Native.Nat.{ℕ, _≤_, _<_}
 use native.Mathlib.Decide.{decLt, ℕ-discrete}
 use native.Mathlib.Omega.{arith}
 use borrow.Author.Tests.{eq-eqb, ne-eqb, lt-ltb, le-ltb, ltb-true}
@@ -30,7 +30,7 @@ use Rattle.laying.specs.declared.Order.the-variants as order
 use Rattle.laying.specs.Laid.{laidOut}
 use Rattle.laying.specs.Ready.{Ready}
 use Rattle.meaning.specs.Sound.{Formed, Sound}
-use Rattle.meaning.proofs.Means.{no-more, ready-told, ready-means, fits-means}
+use Rattle.meaning.proofs.Means.{no-more, ready-means, fits-means}
 
 -- ---- the start
 
@@ -99,11 +99,11 @@ module _ (p : Filled) (formed : Formed p) (s : ℕ) (v : Person) where
 -- ---- steps as listed
 
 -- with the first n steps filled, the next is the only one that is ready
-pub listed-ready : (c : Case) → Ready c → (p : Filled) → Sound c p → (n s : ℕ) → ((x : ℕ) → x < mostSteps → has (p .steps) x ≡ ltb x n) → s < mostSteps
+pub listed-ready : (c : Case) → Ready c → (p : Filled) (n s : ℕ) → ((x : ℕ) → x < mostSteps → has (p .steps) x ≡ ltb x n) → s < mostSteps
     → has (readyOn (laidOut c order.Listed) p) s ≡ ltb s (steps c) && eqb s n
 unfolding stepsIn
-listed-ready c ready p sound n s first l =
-    ready-means c order.Listed ready p sound s l
+listed-ready c ready p n s first l =
+    ready-means c order.Listed ready p s l
     ∙ ap (λ (d : Bool). ltb s (steps c) && d) (ap (λ (d : Bool). not d && rest) (first s l) ∙ go (ℕ-discrete s n) (decLt s n))
   where
     lower : ℕ
@@ -138,10 +138,10 @@ listed-ready c ready p sound n s first l =
     go (no e) (no h) = ap₂ (λ (x y : Bool). not x && y) (le-ltb s n (omega arith)) (short (omega arith)) ∙ sym (ne-eqb s n e)
 
 -- wherever one comes to, the lowest step that is ready is the only one
-pub listed-one : (c : Case) → Ready c → (p : Filled) → p .steps < 2 ^ mostSteps → (s : ℕ) → s < mostSteps
+pub listed-one : (c : Case) → Ready c → (p : Filled) (s : ℕ) → s < mostSteps
     → has (readyOn (laidOut c order.Listed) p) s ≡ true → s ≡ valueOr 32 (lowest 32 (readyOn (laidOut c order.Listed) p))
 unfolding stepsIn
-listed-one c ready p small s l e = sym (ap (valueOr 32) (lowest-is 32 R s (omega arith) e below))
+listed-one c ready p s l e = sym (ap (valueOr 32) (lowest-is 32 R s (omega arith) e below))
   where
     R : ℕ
     R = readyOn (laidOut c order.Listed) p
@@ -149,23 +149,17 @@ listed-one c ready p small s l e = sym (ap (valueOr 32) (lowest-is 32 R s (omega
     lower : ℕ → ℕ
     lower y = setOf (λ x. ltb x y) mostSteps
 
-    told : (y : ℕ) → y < mostSteps
-        → has R y ≡ ltb (p .steps) (2 ^ steps c) && (ltb y (steps c) && (not (has (p .steps) y) && all (has (p .steps)) (members mostSteps (lower y))))
-    told y k = ready-told c order.Listed ready p small y k
-
     -- the steps below one that is ready are filled
     reached : all (has (p .steps)) (members mostSteps (lower s)) ≡ true
-    reached =
-        and-true (not (has (p .steps) s)) _
-        (and-true (ltb s (steps c)) _ (and-true (ltb (p .steps) (2 ^ steps c)) _ (sym (told s l) ∙ e) .1) .1) .1
+    reached = and-true (not (has (p .steps) s)) _ (and-true (ltb s (steps c)) _ (sym (ready-means c order.Listed ready p s l) ∙ e) .1) .1
 
-    none : (a d f g : Bool) → f ≡ true → a && (d && (not f && g)) ≡ false
-    none a d f g q = ap (λ (x : Bool). a && (d && (not x && g))) q ∙ ap (λ (x : Bool). a && x) (and-false-end d) ∙ and-false-end a
+    none : (d f g : Bool) → f ≡ true → d && (not f && g) ≡ false
+    none d f g q = ap (λ (x : Bool). d && (not x && g)) q ∙ and-false-end d
 
     below : (y : ℕ) → y < s → has R y ≡ false
     below y h =
         let k : y < mostSteps = omega arith in
-        told y k
-        ∙ none (ltb (p .steps) (2 ^ steps c)) (ltb y (steps c)) (has (p .steps) y) (all (has (p .steps)) (members mostSteps (lower y)))
+        ready-means c order.Listed ready p y k
+        ∙ none (ltb y (steps c)) (has (p .steps) y) (all (has (p .steps)) (members mostSteps (lower y)))
         (all-mem (has (p .steps)) (members mostSteps (lower s)) reached y
         (members-mem mostSteps (lower s) y k (has-setOf (λ x. ltb x s) mostSteps y k ∙ lt-ltb y s h)))

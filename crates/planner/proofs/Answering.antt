@@ -9,7 +9,7 @@ use native.Mathlib.Omega.{arith}
 use lib.Dec.{leb}
 use lib.ListN.{length, getD}
 use lib.Seq.{ext-getD}
-use Rattle.sets.specs.Lists.{_∈_, pick, upto}
+use Rattle.sets.specs.Lists.{pick, upto}
 use Rattle.games.specs.Walks.{Search, plan, dynamic, advice, away}
 use Rattle.games.specs.Limit.{Answer, stopped, whole, cut}
 use Rattle.games.proofs.Walks.{told}
@@ -27,7 +27,6 @@ use Rattle.laying.specs.declared.Order.the-variants as order
 use Rattle.laying.specs.Laid.{laidOut}
 use Rattle.laying.specs.Ready.{Ready}
 use Rattle.meaning.specs.Listed.{filledBy}
-use Rattle.meaning.proofs.Given.{laid-alone, laid-unfilled, laid-closed, laid-listed}
 use Rattle.meaning.proofs.Listed.{filled-formed, filled-at}
 use Rattle.meaning.proofs.OnBoard.{plan-on-board, static-on-board, decremental-on-board, one-shot-on-board, dynamic-on-board, advice-on-board, away-on-board}
 use Rattle.refusals.specs.declared.Refusal.{Refusal}
@@ -37,10 +36,7 @@ use Rattle.refusals.specs.Refusals.{judgedBy, orElse}
 use Rattle.refusals.specs.CaseChecks.{judgedCase}
 use Rattle.refusals.proofs.Order.{good-checks, judged-append}
 use Rattle.refusals.proofs.Cases.{good-limited}
-use Rattle.tries.specs.Trying.{stepOn}
-use Rattle.tries.specs.WellLaid.{WellLaid}
-use Rattle.tries.specs.Outcomes.{named, adviceOn}
-use Rattle.asking.specs.Asking.{numberCheck, positionCheck, absenceCheck, judgedQuestion, judgedAway, judgedAdvice}
+use Rattle.asking.specs.Asking.{numberCheck, positionCheck, absenceCheck, judgedQuestion}
 use Rattle.asking.specs.OnBoard.{positionCheckOn}
 use Rattle.asking.proofs.Accepted.{GoodPosition, position-accepted}
 use Rattle.asking.proofs.Calls.{question-order, away-order, advice-order}
@@ -57,7 +53,7 @@ use Rattle.planner.specs.declared.AwayAnswer.{AwayAnswer}
 use Rattle.planner.specs.declared.AwayAnswer.the-variants as away-says
 use Rattle.planner.specs.Answers.{personOf, positionOf, noPlan, planAnswer, planGiven, verdictAnswer, verdictGiven, adviceAnswer, adviceGiven, awayAnswer, awayGiven}
 use Rattle.planner.specs.Calls.{planCall, walkOf, questionCall, adviceCall, awayCall}
-use Rattle.planner.specs.OnBoard.{planOn, walkOn, planAnswerOn, adviceReady, awayReady}
+use Rattle.planner.specs.OnBoard.{planOn, walkOn, planAnswerOn, personTold, adviceReady, awayReady}
 
 -- ---- the steps of a good case, and a position at the start
 
@@ -71,18 +67,6 @@ at-start e = ap persons e ∙ persons-start
 
 abbrev pub board : Case → List ℕ
 board c = laidOut c order.Listed
-
--- it gives what the searches ask of a board
-pub well-laid : (c : Case) → Ready c → (b : List ℕ) → b ≡ board c → WellLaid b
-unfolding stepOn
-well-laid c r b e =
-    subst WellLaid (sym e)
-    (record {
-      alone = laid-alone c r;
-      unfilled = laid-unfilled c order.Listed r;
-      closed = laid-closed c order.Listed r;
-      listed = laid-listed c order.Listed r;
-    })
 
 -- ---- plan
 
@@ -125,8 +109,12 @@ plan-walked c l b n k x r f g i y = rw (f, g, i) at y ∙ ap (λ w. planAnswerOn
 
 -- ---- the questions about absence
 
-pub question-judged : (c : Case) (t : ℕ) (j i k : Judged) → i ≡ judgedCase c → k ≡ judgedBy (numberCheck t ∷ []) → j ≡ orElse i k → judgedQuestion c t ≡ j
-question-judged c t j i k e f g = question-order c t ∙ ap₂ orElse (sym e) (sym f) ∙ sym g
+-- a case that is refused is refused whatever t is; that of a good one is what t is judged
+pub case-judged : (c : Case) (t : ℕ) (r : Refusal) → judgedCase c ≡ Refused r → judgedQuestion c t ≡ Refused r
+case-judged c t r e = question-order c t ∙ ap (λ i. orElse i (judgedBy (numberCheck t ∷ []))) e
+
+pub question-judged : (c : Case) (t : ℕ) (k : Judged) → judgedCase c ≡ Good → k ≡ judgedBy (numberCheck t ∷ []) → judgedQuestion c t ≡ k
+question-judged c t k e f = question-order c t ∙ ap₂ orElse e (sym f)
 
 pub question-refused : (q : Question) (c : Case) (t l : ℕ) (r : Refusal) → judgedQuestion c t ≡ Refused r → verdict.Refused r ≡ questionCall q c t l
 unfolding questionCall
@@ -211,21 +199,26 @@ module _ (c : Case) (p : List ℕ) (t : ℕ) where
     unfolding adviceReady
     advice-refused A l x e = ap (λ j. adviceGiven j (cut l (adviceAt c t A p))) (sym e)
 
-    pub advice-answered : (A l : ℕ) (b : List ℕ) (n k : ℕ) (q : Filled) (x : AdviceAnswer) (y : Answer (Option ℕ))
+    -- the person of what a walk got, under a limit
+    person-cut : (l : ℕ) (w : Search (ℕ × Done)) → personTold (cut l w) ≡ cut l (told (λ (a : ℕ × Done). a .0) w)
+    unfolding cut
+    person-cut l w = go (leb (w .trials) l) (w .got) (w .trials)
+      where
+        go : (x : Bool) (o : Option (ℕ × Done)) (m : ℕ)
+            → personTold (pick x (whole (record { got = o; trials = m })) (stopped l)) ≡ pick x (whole (told (λ (a : ℕ × Done). a .0) (record { got = o; trials = m }))) (stopped l)
+        go true none m = refl
+        go true (some a) m = refl
+        go false o m = refl
+
+    pub advice-answered : (A l : ℕ) (b : List ℕ) (n k : ℕ) (q : Filled) (x : AdviceAnswer) (y : Answer (Option (ℕ × Done)))
         → judgedBy (positionCheck c p ∷ (absenceCheck (people c) t A ∷ [])) ≡ Good → GoodPosition c p → b ≡ board c → n ≡ people c → k ≡ steps c - length p → q ≡ filledBy p
-        → x ≡ adviceAnswer y → y ≡ cut l (adviceOn b n t k A q) → x ≡ adviceReady c p t A l
+        → x ≡ adviceAnswer (personTold y) → y ≡ cut l (advice (boardArena b n) t k A q) → x ≡ adviceReady c p t A l
     unfolding adviceReady
     advice-answered A l b n k q x y e v f g h w i j =
         i
-        ∙ ap adviceAnswer (rw (f, g, h, w) at j ∙ ap (cut l) (advised (advice (boardArena (board c) (people c)) t (steps c - length p) A (filledBy p)) ∙ advice-on-board c r p (v .valid) t A))
+        ∙ ap adviceAnswer (ap personTold (rw (f, g, h, w) at j) ∙ person-cut l (advice (boardArena (board c) (people c)) t (steps c - length p) A (filledBy p))
+        ∙ ap (cut l) (advice-on-board c r p (v .valid) t A))
         ∙ ap (λ z. adviceGiven z (cut l (adviceAt c t A p))) (sym e)
-      where
-        advised : (w : Search (ℕ × Done)) → _≡_ {A = Search ℕ} (record { got = named (w .got); trials = w .trials }) (told (λ (a : ℕ × Done). a .0) w)
-        advised w = go (w .got) (w .trials)
-          where
-            go : (o : Option (ℕ × Done)) (m : ℕ) → _≡_ {A = Search ℕ} (record { got = named o; trials = m }) (told (λ (a : ℕ × Done). a .0) (record { got = o; trials = m }))
-            go none m = refl
-            go (some a) m = refl
 
     -- ---- away
 

@@ -1,5 +1,5 @@
 -- A walk's end as a call says it, and the position of a list of persons.
-use mathlib.Core.Path.{_≡_, sym, ap, ap₂, _∙_}
+use mathlib.Core.Path.{_≡_, sym, ap, _∙_}
 use mathlib.Core.List.{List, map}
 use Prim.Native.Nat.{ℕ, _≤_}
 use native.Mathlib.Omega.{arith}
@@ -10,15 +10,10 @@ use Rattle.sets.specs.declared.People.{People}
 use Rattle.sets.proofs.Records.{stored-number}
 use Rattle.cases.specs.Case.{mostSteps}
 use Rattle.cases.specs.Positions.{persons, zeroPerson}
-use Rattle.cases.specs.declared.Person.{Person}
-use Rattle.cases.specs.declared.Position.{Position}
-use Rattle.cases.proofs.Positions.{upto-at, upto-many, persons-length}
-use Rattle.words.specs.Part.{Filled}
-use Rattle.words.proofs.Parts.{fill-end}
+use Rattle.cases.proofs.Positions.{upto-at, upto-many}
 use Rattle.tries.specs.declared.Verdict.the-variants as walked
 use Rattle.tries.specs.Outcomes.{verdictOutcome}
 use Rattle.planner.specs.declared.PlanSays.the-variants as plan
-use Rattle.planner.specs.declared.PlanAnswer.{PlanAnswer}
 use Rattle.planner.specs.declared.VerdictAnswer.the-variants as verdict
 use Rattle.planner.specs.declared.AwayAnswer.the-variants as away
 use Rattle.planner.specs.Answers.{personOf, positionOf, verdictAnswer, awayAnswer}

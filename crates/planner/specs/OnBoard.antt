@@ -9,7 +9,7 @@ use Rattle.cases.specs.declared.Filled.{Filled}
 use Rattle.cases.specs.Case.{people}
 use Rattle.cases.specs.Chain.{adviceAt, awayAt}
 use Rattle.cases.specs.Filled.{startFilled}
-use Rattle.boards.specs.Arena.{boardArena}
+use Rattle.boards.specs.Arena.{Done, boardArena}
 use Rattle.refusals.specs.Refusals.{judgedBy}
 use Rattle.asking.specs.Asking.{positionCheck, absenceCheck}
 use Rattle.planner.specs.declared.Question.{Question}
@@ -39,6 +39,15 @@ planEndedOn k (ended (some q)) n = record { says = plan-says.Yes n; plan = recor
 
 abbrev pub planAnswerOn : ℕ → Answer (Option Filled) → PlanAnswer
 planAnswerOn k a = planEndedOn k (a .out) (a .count)
+
+-- of a person and a move, the person
+abbrev pub personEnded : Ended (Option (ℕ × Done)) → Ended (Option ℕ)
+personEnded limit = limit
+personEnded (ended none) = ended none
+personEnded (ended (some a)) = ended (some (a .0))
+
+abbrev pub personTold : Answer (Option (ℕ × Done)) → Answer (Option ℕ)
+personTold a = record { out = personEnded (a .out); count = a .count }
 
 -- advice and away where the case and t are accepted: judged by 13 and 14, then walked
 unfoldable pub adviceReady : Case → List ℕ → ℕ → ℕ → ℕ → AdviceAnswer

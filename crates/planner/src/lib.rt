@@ -1,5 +1,6 @@
 // The public face: every call judges what it is given, and refuses or answers. The seven calls have no `requires`: every value of every argument gets
-// an answer, and the contract fixes all of it. The calls `.._ready` and `.._laid` stand inside them, for what is judged or laid out already.
+// an answer, and the contract fixes all of it. The calls `.._good`, `.._ready` and `.._laid` stand inside them, for a case that is judged already, for one whose
+// t is judged too, and for a board.
 //
 // The answers hold all that a caller needs to act on step by step: after advice, append the person to the position and ask again.
 use asking::filled;
@@ -13,29 +14,29 @@ use cases::Person;
 use cases::Position;
 use judging::judge_case;
 use laying::Order;
-use laying::lay_out;
+use laying::lay_onto;
+use losses::away_turn;
 use plans::plan_walk;
 use plans::static_walk;
 use refusals::Judged;
 use refusals::Refusal;
+use rounds::advice_walk;
+use rounds::dynamic_walk;
 use sets::People;
+use strikes::one_shot_walk;
 use tries::Advised;
 use tries::PlanEnd;
 use tries::Planned;
 use tries::Verdict;
-use walks::advice_walk;
-use walks::away_turn;
-use walks::dynamic_walk;
-use walks::one_shot_walk;
 ghost use mathlib.Core.Path.{_≡_};
 ghost use Prim.Native.Nat.{_≤_};
 ghost use Rattle.sets.specs.Stored.{number};
 ghost use Rattle.games.specs.Limit.{cut};
 ghost use Rattle.cases.specs.Chain.{planOf};
+ghost use Rattle.refusals.specs.CaseChecks.{judgedCase};
 ghost use Rattle.planner.specs.Calls.{planCall, walkOf, questionCall, staticCall, decrementalCall, oneShotCall, dynamicCall, adviceCall, awayCall};
 ghost use Rattle.laying.specs.Ready.{Ready};
-ghost use Rattle.planner.specs.OnBoard.{planOn, walkOn, planAnswerOn, adviceReady, awayReady};
-ghost use Rattle.tries.specs.WellLaid.{WellLaid};
+ghost use Rattle.planner.specs.OnBoard.{planOn, walkOn, planAnswerOn, personTold, adviceReady, awayReady};
 ghost use Rattle.tries.specs.Outcomes.{planOutcome, verdictOutcome, advisedOutcome};
 ghost use Rattle.cases.specs.Positions.{persons};
 ghost use Rattle.planner.specs.Answers.{noPlan, planAnswer, verdictAnswer, adviceAnswer, awayAnswer};
@@ -92,7 +93,7 @@ pub fn plan(case: Case, limit: u32) -> PlanAnswer
 {
     match judge_case(case) {
         Judged::Refused(refusal) => unplanned(PlanSays::Refused(refusal)),
-        Judged::Good => plan_ready(case, limit),
+        Judged::Good => plan_good(case, limit),
     }
 }
 
@@ -132,9 +133,9 @@ pub fn dynamic_verdict(case: Case, t: u32, limit: u32) -> VerdictAnswer
 pub fn advice(case: Case, position: Position, t: u32, absent: People, limit: u32) -> AdviceAnswer
     ensures { λ r. ⌜ r ≡ adviceCall case (persons position) t (number absent) limit ⌝ }
 {
-    match judge_case(case).or_else(judge_number(t)) {
+    match judge_case(case) {
         Judged::Refused(refusal) => AdviceAnswer::Refused(refusal),
-        Judged::Good => advise_ready(case, position, t, absent, limit),
+        Judged::Good => advise_good(case, position, t, absent, limit),
     }
 }
 
@@ -142,10 +143,18 @@ pub fn advice(case: Case, position: Position, t: u32, absent: People, limit: u32
 pub fn away(case: Case, position: Position, t: u32, limit: u32) -> AwayAnswer
     ensures { λ r. ⌜ r ≡ awayCall case (persons position) t limit ⌝ }
 {
-    match judge_case(case).or_else(judge_number(t)) {
+    match judge_case(case) {
         Judged::Refused(refusal) => AwayAnswer::Refused(refusal),
-        Judged::Good => away_ready(case, position, t, limit),
+        Judged::Good => away_good(case, position, t, limit),
     }
+}
+
+// The plan call for a case that is good.
+pub fn plan_good(case: Case, limit: u32) -> PlanAnswer
+    requires { ⌜ judgedCase case ≡ Judged.Good ⌝ }
+    ensures { λ r. ⌜ r ≡ planCall case limit ⌝ }
+{
+    plan_ready(case, limit)
 }
 
 // A case that is ready is laid out as a board and walked.
@@ -153,7 +162,8 @@ pub fn plan_ready(case: Case, limit: u32) -> PlanAnswer
     requires { ⌜ Ready case ⌝ }
     ensures { λ r. ⌜ r ≡ planAnswer (cut limit (planOf case)) ⌝ }
 {
-    let board = lay_out(case, Order::Listed);
+    let mut board = [0u32; PLACES];
+    lay_onto(&mut board, case, Order::Listed);
     let people = case.counts.people as u8;
     let steps = case.counts.steps as u8;
     plan_laid(&board, people, steps, limit)
@@ -161,7 +171,7 @@ pub fn plan_ready(case: Case, limit: u32) -> PlanAnswer
 
 // The plan call on a board.
 pub fn plan_laid(board: &[u32; PLACES], people: u8, steps: u8, limit: u32) -> PlanAnswer
-    requires { ⌜ (people ≤ 32) × WellLaid (now board) ⌝ }
+    requires { ⌜ people ≤ 32 ⌝ }
     ensures { λ r. ⌜ r ≡ planAnswerOn steps (cut limit (planOn (now (board .entry)) people steps)) ⌝ }
 {
     let walked = plan_walk(board, people, People::none(), Filled::start(), steps, limit);
@@ -172,7 +182,18 @@ pub fn plan_laid(board: &[u32; PLACES], people: u8, steps: u8, limit: u32) -> Pl
 fn ask(question: Question, case: Case, t: u32, limit: u32) -> VerdictAnswer
     ensures { λ r. ⌜ r ≡ questionCall question case t limit ⌝ }
 {
-    match judge_case(case).or_else(judge_number(t)) {
+    match judge_case(case) {
+        Judged::Refused(refusal) => VerdictAnswer::Refused(refusal),
+        Judged::Good => ask_good(question, case, t, limit),
+    }
+}
+
+// The same for a case that is good: t is judged, then the case is walked.
+pub fn ask_good(question: Question, case: Case, t: u32, limit: u32) -> VerdictAnswer
+    requires { ⌜ judgedCase case ≡ Judged.Good ⌝ }
+    ensures { λ r. ⌜ r ≡ questionCall question case t limit ⌝ }
+{
+    match judge_number(t) {
         Judged::Refused(refusal) => VerdictAnswer::Refused(refusal),
         Judged::Good => ask_ready(question, case, t, limit),
     }
@@ -183,7 +204,8 @@ pub fn ask_ready(question: Question, case: Case, t: u32, limit: u32) -> VerdictA
     requires { ⌜ Ready case ⌝ }
     ensures { λ r. ⌜ r ≡ verdictAnswer (cut limit (walkOf question case t)) ⌝ }
 {
-    let board = lay_out(case, Order::Listed);
+    let mut board = [0u32; PLACES];
+    lay_onto(&mut board, case, Order::Listed);
     let people = case.counts.people as u8;
     let steps = case.counts.steps as u8;
     ask_laid(question, &board, people, t, steps, limit)
@@ -198,7 +220,7 @@ pub fn ask_laid(
     steps: u8,
     limit: u32,
 ) -> VerdictAnswer
-    requires { ⌜ (people ≤ 32) × WellLaid (now board) ⌝ }
+    requires { ⌜ people ≤ 32 ⌝ }
     ensures { λ r. ⌜ r ≡ verdictAnswer (cut limit (walkOn question (now (board .entry)) people t steps)) ⌝ }
 {
     let walked = walk(question, board, people, t, steps, limit);
@@ -214,7 +236,7 @@ fn walk(
     steps: u8,
     limit: u32,
 ) -> Verdict
-    requires { ⌜ (people ≤ 32) × WellLaid (now board) ⌝ }
+    requires { ⌜ people ≤ 32 ⌝ }
     ensures { λ r. ⌜ verdictOutcome limit r ≡ cut limit (walkOn question (now (board .entry)) people t steps) ⌝ }
 {
     let start = Filled::start();
@@ -223,6 +245,23 @@ fn walk(
         Question::Decremental => away_turn(board, people, t, People::none(), start, steps, limit),
         Question::OneShot => one_shot_walk(board, people, t, start, steps, limit),
         Question::Dynamic => dynamic_walk(board, people, t, start, steps, limit),
+    }
+}
+
+// Advice for a case that is good: t is judged, then the rest.
+pub fn advise_good(
+    case: Case,
+    position: Position,
+    t: u32,
+    absent: People,
+    limit: u32,
+) -> AdviceAnswer
+    requires { ⌜ judgedCase case ≡ Judged.Good ⌝ }
+    ensures { λ r. ⌜ r ≡ adviceCall case (persons position) t (number absent) limit ⌝ }
+{
+    match judge_number(t) {
+        Judged::Refused(refusal) => AdviceAnswer::Refused(refusal),
+        Judged::Good => advise_ready(case, position, t, absent, limit),
     }
 }
 
@@ -237,7 +276,8 @@ pub fn advise_ready(
     requires { ⌜ Ready case ⌝ }
     ensures { λ r. ⌜ r ≡ adviceReady case (persons position) t (number absent) limit ⌝ }
 {
-    let board = lay_out(case, Order::Listed);
+    let mut board = [0u32; PLACES];
+    lay_onto(&mut board, case, Order::Listed);
     let people = case.counts.people;
     let steps = case.counts.steps;
     match judge_position(&board, people, steps, position).or_else(judge_absent(people, t, absent)) {
@@ -260,12 +300,24 @@ pub fn advise_ready(
     }
 }
 
+// Away for a case that is good: t is judged, then the rest.
+pub fn away_good(case: Case, position: Position, t: u32, limit: u32) -> AwayAnswer
+    requires { ⌜ judgedCase case ≡ Judged.Good ⌝ }
+    ensures { λ r. ⌜ r ≡ awayCall case (persons position) t limit ⌝ }
+{
+    match judge_number(t) {
+        Judged::Refused(refusal) => AwayAnswer::Refused(refusal),
+        Judged::Good => away_ready(case, position, t, limit),
+    }
+}
+
 // Away on a case that is ready: the position is judged, then the board is walked.
 pub fn away_ready(case: Case, position: Position, t: u32, limit: u32) -> AwayAnswer
     requires { ⌜ Ready case ⌝ }
     ensures { λ r. ⌜ r ≡ awayReady case (persons position) t limit ⌝ }
 {
-    let board = lay_out(case, Order::Listed);
+    let mut board = [0u32; PLACES];
+    lay_onto(&mut board, case, Order::Listed);
     let people = case.counts.people;
     let steps = case.counts.steps;
     match judge_position(&board, people, steps, position) {
@@ -334,13 +386,13 @@ fn away_said(walked: Verdict, limit: u32) -> AwayAnswer
     }
 }
 
-// What the walk of advice came to.
+// What the walk of advice came to. Steps are done as listed, so the person says it all.
 fn advice_said(walked: Advised, limit: u32) -> AdviceAnswer
-    ensures { λ r. ⌜ r ≡ adviceAnswer (advisedOutcome limit walked) ⌝ }
+    ensures { λ r. ⌜ r ≡ adviceAnswer (personTold (advisedOutcome limit walked)) ⌝ }
 {
     match walked {
         Advised::Limit => AdviceAnswer::Limit(limit),
         Advised::Nobody(trials) => AdviceAnswer::Nobody(trials),
-        Advised::Person(person, trials) => AdviceAnswer::Person(person, trials),
+        Advised::Move(_, person, trials) => AdviceAnswer::Person(person, trials),
     }
 }

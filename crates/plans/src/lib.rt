@@ -1,50 +1,48 @@
 // The searches for a plan: the plan walk, and the static walk, which asks for a plan without each set of people. Each stops at its limit, and each is
 // proved equal to the walk of `games` on the board's arena, trial for trial.
 //
-// Where every rule that names the step that is ready is complete once it is filled, the step is settled: no later test looks at who fills it, and the
-// walks from all placings there are the same. So one of them is walked, and its answer and trials are those of all.
-mod sums;
-
+// Where one step is ready, a position's people stand in one line: two sets, and no array. Where several are, the desk chooses among lines of moves.
+//
+// A walk tells at which filled steps it looked to see who fills them. Where it found no plan and did not look at the step that was filled last, the walks
+// from all other placings there are the same: they are counted, and not walked.
+//
+// Once the static walk has found its first plan, the trials of all its sets are reckoned together where they can be. That is not tried before: it would be
+// in vain where the first set has no plan.
 use boards::PLACES;
-use boards::settled;
+use cases::Case;
 use cases::Filled;
+use cases::Person;
+use cases::joined_steps;
+use lines::Cursor;
+use lines::next_move;
+use reckoning::Reckoned;
+use reckoning::static_trials;
+use reckoning::tell;
 use sets::Next;
 use sets::People;
-use sums::SIZES;
-use sums::all_planned;
+use sets::holds;
 use tries::PlanEnd;
 use tries::Planned;
 use tries::Spent;
 use tries::Try;
 use tries::Turn;
+use tries::Turned;
 use tries::Verdict;
+use tries::Walked;
 use tries::behind;
 use tries::line_up;
+use tries::lines_up;
 use tries::next_step;
 use tries::next_try;
 use tries::rest_alike;
+use tries::several;
 ghost use mathlib.Core.Path.{_≡_};
-ghost use Prim.Native.Nat.{max, _≤_};
-ghost use Rattle.sets.specs.Stored.{width, number};
+ghost use Prim.Native.Nat.{_≤_, _<_};
+ghost use Rattle.sets.specs.Stored.{number};
 ghost use Rattle.games.specs.Walks.{plan, static, ifNone};
 ghost use Rattle.games.specs.Limit.{cut};
 ghost use Rattle.boards.specs.Arena.{boardArena};
-ghost use Rattle.tries.specs.Outcomes.{planOutcome, verdictOutcome, turnOutcome};
-ghost use Rattle.tries.specs.WellLaid.{WellLaid};
-ghost use Rattle.plans.specs.Ways.{Finds, Bounds};
-
-// A search for a plan that takes nobody back. Where it finds one: its trials, and a person from whom on it looked at nobody.
-pub enum Way {
-    Found(u32, u8),
-    Lost,
-}
-
-// A turn of the static walk, which looked at nobody from person `top` on; or no plan was found straight, and `top` is
-// the width.
-pub struct Looked {
-    pub turn: Turn,
-    pub top: u8,
-}
+ghost use Rattle.tries.specs.Outcomes.{verdictOutcome, turnOutcome, PlanTold, Tells};
 
 // The first plan from a position, with some people away throughout.
 pub fn plan_walk(
@@ -55,17 +53,23 @@ pub fn plan_walk(
     left: u8,
     limit: u32,
 ) -> Planned
-    requires { ⌜ (people ≤ 32) × WellLaid (now board) ⌝ }
-    ensures { λ r. ⌜ planOutcome limit r ≡ cut limit (plan (boardArena (now (board .entry)) people) (number absent) left p) ⌝ }
+    requires { ⌜ people ≤ 32 ⌝ }
+    ensures { λ r. ⌜ PlanTold (now (board .entry)) people (number absent) left limit p r ⌝ }
 {
     if left == 0 {
         return Planned {
             end: PlanEnd::Yes(0),
             plan: p,
+            looked: 0,
         };
     }
+    if several(board, p) {
+        return plan_choice(board, people, absent, p, left, limit);
+    }
     let step = next_step(board, p);
-    let mut line = line_up(board, people, absent, p, step);
+    let lined = line_up(board, people, absent, p, step);
+    let mut looked = lined.looked;
+    let mut line = lined.line;
     let mut used: u32 = 0;
     loop {
         match next_try(line, used, limit) {
@@ -73,12 +77,14 @@ pub fn plan_walk(
                 return Planned {
                     end: PlanEnd::Limit,
                     plan: p,
+                    looked: looked,
                 };
             }
             Try::Nobody(trials) => {
                 return Planned {
                     end: PlanEnd::No(trials),
                     plan: p,
+                    looked: looked,
                 };
             }
             Try::Person(v, trials) => {
@@ -90,36 +96,42 @@ pub fn plan_walk(
                     left - 1,
                     limit - trials,
                 );
+                looked = joined_steps(looked, sub.looked);
+                let asked = holds(sub.looked as u16, step.0);
+                let found = sub.plan;
                 let end = sub.end;
                 match end {
                     PlanEnd::Limit => {
                         return Planned {
                             end: PlanEnd::Limit,
                             plan: p,
+                            looked: looked,
                         };
                     }
                     PlanEnd::Yes(more) => {
-                        let found = sub.plan;
                         return Planned {
                             end: PlanEnd::Yes(trials + more),
                             plan: found,
+                            looked: looked,
                         };
                     }
                     PlanEnd::No(more) => {
                         used = trials + more;
                         line = behind(line, v);
-                        if settled(board, p, step) {
+                        if !asked {
                             match rest_alike(line, used, more, limit) {
                                 Spent::Limit => {
                                     return Planned {
                                         end: PlanEnd::Limit,
                                         plan: p,
+                                        looked: looked,
                                     };
                                 }
                                 Spent::All(all) => {
                                     return Planned {
                                         end: PlanEnd::No(all),
                                         plan: p,
+                                        looked: looked,
                                     };
                                 }
                             }
@@ -131,73 +143,83 @@ pub fn plan_walk(
     }
 }
 
-// A plan with some people away, found straight: at each step the first person who is tried and fits also leads on.
-fn straight(
+// The same, where the desk may choose its step.
+fn plan_choice(
     board: &[u32; PLACES],
     people: u8,
     absent: People,
     p: Filled,
     left: u8,
     limit: u32,
-) -> Way
-    requires { ⌜ (people ≤ 32) × WellLaid (now board) ⌝ }
-    ensures { λ r. ⌜ Finds (now (board .entry)) people (number absent) left p limit r ⌝ }
+) -> Planned
+    requires { ⌜ (0 < left) × (people ≤ 32) ⌝ }
+    ensures { λ r. ⌜ PlanTold (now (board .entry)) people (number absent) left limit p r ⌝ }
 {
-    let mut at = p;
-    let mut more = left;
+    let choices = lines_up(board, people, p);
+    let lines = choices.lines.without(absent);
+    let mut looked = choices.looked;
+    let mut at = Cursor { person: 0, line: 0 };
     let mut used: u32 = 0;
-    let mut top: u8 = 0;
-    while 0 < more {
-        let step = next_step(board, at);
-        match next_try(line_up(board, people, absent, at, step), used, limit) {
-            Try::Limit => {
-                return Way::Lost;
+    loop {
+        match next_move(lines, at, used, limit) {
+            lines::Try::Limit => {
+                return Planned {
+                    end: PlanEnd::Limit,
+                    plan: p,
+                    looked: looked,
+                };
             }
-            Try::Nobody(_) => {
-                return Way::Lost;
+            lines::Try::Nobody(trials) => {
+                return Planned {
+                    end: PlanEnd::No(trials),
+                    plan: p,
+                    looked: looked,
+                };
             }
-            Try::Person(v, trials) => {
-                let next = at.placed(step, v);
-                at = next;
-                more -= 1;
-                used = trials;
-                top = higher(top, v.0 + 1);
+            lines::Try::Move(m, trials) => {
+                let here = m.line;
+                let line = lines.lines[here as usize];
+                let step = line.step;
+                let sub = plan_walk(
+                    board,
+                    people,
+                    absent,
+                    p.placed(step, Person(m.person)),
+                    left - 1,
+                    limit - trials,
+                );
+                looked = joined_steps(looked, sub.looked);
+                let found = sub.plan;
+                let end = sub.end;
+                match end {
+                    PlanEnd::Limit => {
+                        return Planned {
+                            end: PlanEnd::Limit,
+                            plan: p,
+                            looked: looked,
+                        };
+                    }
+                    PlanEnd::Yes(more) => {
+                        return Planned {
+                            end: PlanEnd::Yes(trials + more),
+                            plan: found,
+                            looked: looked,
+                        };
+                    }
+                    PlanEnd::No(more) => {
+                        used = trials + more;
+                        at = Cursor {
+                            person: m.person,
+                            line: m.line + 1,
+                        };
+                    }
+                }
             }
         }
     }
-    Way::Found(used, top)
 }
 
-// The higher of two.
-fn higher(a: u8, b: u8) -> u8
-    ensures { λ r. ⌜ r ≡ max a b ⌝ }
-{
-    if a < b { b } else { a }
-}
-
-// Is there a plan without some people? A plan walk that may take people back.
-fn plan_turn(
-    board: &[u32; PLACES],
-    people: u8,
-    away: People,
-    p: Filled,
-    left: u8,
-    limit: u32,
-) -> Turn
-    requires { ⌜ (people ≤ 32) × WellLaid (now board) ⌝ }
-    ensures { λ r. ⌜ turnOutcome limit (number away) r ≡ cut limit (ifNone (number away) (plan (boardArena (now (board .entry)) people) (number away) left p)) ⌝ }
-{
-    let walked = plan_walk(board, people, away, p, left, limit);
-    let end = walked.end;
-    match end {
-        PlanEnd::Limit => Turn::Limit,
-        PlanEnd::No(trials) => Turn::Beaten(trials),
-        PlanEnd::Yes(trials) => Turn::Holds(trials),
-    }
-}
-
-// Is there a plan without some people? A turn of the static walk, and of decremental once all are gone: straight, or else with people
-// taken back.
+// Is there a plan without some people? A turn of the static walk, and of decremental once all are gone.
 pub fn without_plan(
     board: &[u32; PLACES],
     people: u8,
@@ -205,29 +227,31 @@ pub fn without_plan(
     p: Filled,
     left: u8,
     limit: u32,
-) -> Looked
-    requires { ⌜ (people ≤ 32) × WellLaid (now board) ⌝ }
-    ensures { λ r. ⌜ (turnOutcome limit (number away) (r .turn) ≡ cut limit (ifNone (number away) (plan (boardArena (now (board .entry)) people) (number away) left p))) × (r .top ≤ width) × Bounds (now (board .entry)) people (number away) left p (r .top) ⌝ }
+) -> Turned
+    requires { ⌜ people ≤ 32 ⌝ }
+    ensures { λ r. ⌜ Tells (λ q. ifNone (number away) (plan (boardArena (now (board .entry)) people) (number away) left q)) limit p (r .looked) (turnOutcome limit (number away) (r .turn)) ⌝ }
 {
-    match straight(board, people, away, p, left, limit) {
-        Way::Found(trials, top) => Looked {
-            turn: Turn::Holds(trials),
-            top: top,
+    let walked = plan_walk(board, people, away, p, left, limit);
+    let looked = walked.looked;
+    let end = walked.end;
+    match end {
+        PlanEnd::Limit => Turned {
+            turn: Turn::Limit,
+            looked: looked,
         },
-        Way::Lost => {
-            let turn = plan_turn(board, people, away, p, left, limit);
-            Looked {
-                turn: turn,
-                top: People::WIDTH,
-            }
-        }
+        PlanEnd::No(trials) => Turned {
+            turn: Turn::Beaten(trials),
+            looked: looked,
+        },
+        PlanEnd::Yes(trials) => Turned {
+            turn: Turn::Holds(trials),
+            looked: looked,
+        },
     }
 }
 
-// The sets of at most t people, a plan walk each; it stops at the first without a plan. With no step left there is nothing to walk.
-//
-// A set that is planned straight says the same of every set with the same members below `top`. So once all sets of the first `top` people are walked, and
-// none of them looked any further, those that are left are counted and not walked.
+// The sets of at most t people, a plan walk each; it stops at the first without a plan. With no step left there is nothing to walk. Where the trials of
+// all sets can be reckoned, that is the answer; it may hang on who fills any step.
 pub fn static_walk(
     board: &[u32; PLACES],
     people: u8,
@@ -236,43 +260,79 @@ pub fn static_walk(
     left: u8,
     limit: u32,
 ) -> Verdict
-    requires { ⌜ (people ≤ 32) × WellLaid (now board) ⌝ }
+    requires { ⌜ people ≤ 32 ⌝ }
     ensures { λ r. ⌜ verdictOutcome limit r ≡ cut limit (static (boardArena (now (board .entry)) people) t left p) ⌝ }
 {
+    static_from(board, people, t, p, left, limit).verdict
+}
+
+// The same, with the steps looked at.
+pub fn static_from(
+    board: &[u32; PLACES],
+    people: u8,
+    t: u32,
+    p: Filled,
+    left: u8,
+    limit: u32,
+) -> Walked
+    requires { ⌜ people ≤ 32 ⌝ }
+    ensures { λ r. ⌜ Tells (static (boardArena (now (board .entry)) people) t left) limit p (r .looked) (verdictOutcome limit (r .verdict)) ⌝ }
+{
     if left == 0 {
-        return Verdict::Yes(0);
+        return Walked {
+            verdict: Verdict::Yes(0),
+            looked: 0,
+        };
     }
     let mut set = People::none();
     let mut used: u32 = 0;
-    let mut top: u8 = 0;
-    let mut sums = [0u64; SIZES];
+    let mut looked: u8 = 0;
+    let mut reckoned = false;
     loop {
-        let looked = without_plan(board, people, set, p, left, limit - used);
-        let turn = looked.turn;
+        let turned = without_plan(board, people, set, p, left, limit - used);
+        looked = joined_steps(looked, turned.looked);
+        let turn = turned.turn;
         match turn {
             Turn::Limit => {
-                return Verdict::Limit;
+                return Walked {
+                    verdict: Verdict::Limit,
+                    looked: looked,
+                };
             }
             Turn::Beaten(trials) => {
-                return Verdict::No(set, used + trials);
+                return Walked {
+                    verdict: Verdict::No(set, used + trials),
+                    looked: looked,
+                };
             }
             Turn::Holds(trials) => {
                 used += trials;
-                top = higher(top, looked.top);
-                let size = set.size() as usize;
-                sums[size] = sums[size] + (trials as u64);
             }
         }
         match set.next(people, t, People::none()) {
             Next::Set(larger) => {
-                if larger.past(top as u16) {
-                    return all_planned(sums, people - top, t, limit);
-                }
                 set = larger;
             }
             Next::Nothing => {
-                return Verdict::Yes(used);
+                return Walked {
+                    verdict: Verdict::Yes(used),
+                    looked: looked,
+                };
             }
+        }
+        if reckoned {
+            continue;
+        }
+        reckoned = true;
+        match static_trials(board, people, t, p, left, limit) {
+            Reckoned::Sum(trials, _) => {
+                let verdict = tell(trials, limit);
+                return Walked {
+                    verdict: verdict,
+                    looked: Case::ALL_STEPS,
+                };
+            }
+            Reckoned::Lost => {}
         }
     }
 }

@@ -4,7 +4,8 @@
 use mathlib.Core.Path.{_≡_, refl, sym, ap, _∙_}
 use mathlib.Core.Option.{Option, none, some}
 use mathlib.Core.List.{List}
-use Prim.Native.Nat.{ℕ}
+use Prim.Native.Nat.{ℕ, _<_}
+use native.Mathlib.Omega.{arith}
 use denote.Ref.{now}
 use Rattle.sets.specs.Sets.{common}
 use Rattle.sets.specs.Stored.{width, number, stored, wideNumber, nextNumber, lowestNumber}
@@ -20,22 +21,28 @@ use Rattle.games.specs.Limit.{Ended, limit, ended, Answer}
 use Rattle.cases.specs.declared.Person.{Person}
 use Rattle.cases.specs.declared.Filled.{Filled}
 use Rattle.boards.specs.Board.{fitsOn}
+use Rattle.boards.specs.Arena.{Done}
+use Rattle.boards.proofs.Looked.{agree-same}
 use Rattle.lines.specs.declared.Cursor.{Cursor}
 use Rattle.lines.specs.declared.Try.{Try as Move}
 use Rattle.lines.specs.declared.Try.the-variants as move
-use Rattle.lines.specs.Moves.{tryOutcome as moveOutcome}
+use Rattle.lines.specs.Moves.{tryOutcome as moveOutcome, linesOf}
 use Rattle.tries.specs.declared.Verdict.{Verdict}
 use Rattle.tries.specs.declared.Verdict.the-variants as verdict
 use Rattle.tries.specs.declared.Advised.{Advised}
 use Rattle.tries.specs.declared.Advised.the-variants as advised
+use Rattle.tries.specs.declared.Turn.{Turn}
+use Rattle.tries.specs.declared.Turn.the-variants as turn
 use Rattle.tries.specs.declared.Line.{Line}
 use Rattle.tries.specs.declared.Try.{Try}
 use Rattle.tries.specs.declared.Try.the-variants as try
 use Rattle.tries.specs.declared.Spent.{Spent}
 use Rattle.tries.specs.declared.Spent.the-variants as spent
-use Rattle.tries.specs.Outcomes.{verdictOutcome, advisedOutcome}
+use Rattle.tries.specs.Outcomes.{verdictOutcome, advisedOutcome, turnOutcome}
 use Rattle.tries.specs.Trying.{stepOn, InLine, tryOutcome}
 use Rattle.tries.specs.Alike.{spentOutcome}
+use Rattle.sums.specs.declared.Absences.{Absences}
+use Rattle.sums.specs.Arrays.{weightOf}
 use Rattle.files.specs.Parts.{seen}
 use Rattle.sets.proofs.People.none.Reads as people-none-reads
 use Rattle.sets.proofs.People.everybody.Reads as people-everybody-reads
@@ -77,6 +84,7 @@ use Rattle.cases.proofs.Filled.start.Reads as filled-start-reads
 use Rattle.cases.proofs.Filled.person.Reads as filled-person-reads
 use Rattle.cases.proofs.Filled.placed.Reads as filled-placed-reads
 use Rattle.cases.proofs.with_step.Reads as with-step-reads
+use Rattle.cases.proofs.joined_steps.Reads as joined-steps-reads
 use Rattle.cases.proofs.Case.empty.Reads as case-empty-reads
 use Rattle.cases.proofs.everybody_if.Reads as everybody-if-reads
 use Rattle.words.proofs.byte_at.Reads as byte-at-reads
@@ -106,26 +114,39 @@ use Rattle.files.proofs.rules_part.Reads as rules-part-reads
 use Rattle.writing.proofs.write.Reads as write-reads
 use Rattle.boards.proofs.allowed.Reads as allowed-reads
 use Rattle.boards.proofs.ready.Reads as ready-reads
-use Rattle.boards.proofs.settled.Reads as settled-reads
 use Rattle.boards.proofs.fits.Reads as fits-reads
-use Rattle.boards.proofs.due.Reads as due-reads
+use Rattle.boards.proofs.fitting.Reads as fitting-reads
 use Rattle.laying.proofs.lay_out.Reads as lay-out-reads
+use Rattle.laying.proofs.lay_onto.Reads as lay-onto-reads
 use Rattle.lines.proofs.Lines.none.Reads as lines-none-reads
 use Rattle.lines.proofs.Lines.with.Reads as lines-with-reads
 use Rattle.lines.proofs.next_move.Reads as next-move-reads
 use Rattle.tries.proofs.next_step.Reads as next-step-reads
+use Rattle.tries.proofs.several.Reads as several-reads
 use Rattle.tries.proofs.line_up.Reads as line-up-reads
+use Rattle.tries.proofs.lines_up.Reads as lines-up-reads
 use Rattle.tries.proofs.next_try.Reads as next-try-reads
 use Rattle.tries.proofs.behind.Reads as behind-reads
 use Rattle.tries.proofs.without.Reads as line-without-reads
 use Rattle.tries.proofs.rest_alike.Reads as rest-alike-reads
 use Rattle.tries.proofs.all_bad.Reads as all-bad-reads
 use Rattle.tries.proofs.all_good.Reads as all-good-reads
+use Rattle.sums.proofs.once.Reads as once-reads
+use Rattle.sums.proofs.product.Reads as product-reads
+use Rattle.sums.proofs.added.Reads as added-reads
+use Rattle.sums.proofs.how_many.Reads as how-many-reads
+use Rattle.sums.proofs.weight.Reads as weight-reads
+use Rattle.sums.proofs.trials_to.Reads as trials-to-reads
+use Rattle.sums.proofs.staying.Reads as staying-reads
+use Rattle.sums.proofs.joined.Reads as joined-reads
+use Rattle.sums.proofs.raised.Reads as raised-reads
+use Rattle.plans.proofs.without_plan.Reads as without-plan-reads
 use Rattle.plans.proofs.static_walk.Reads as static-walk-reads
-use Rattle.walks.proofs.dynamic_walk.Reads as dynamic-walk-reads
-use Rattle.walks.proofs.advice_walk.Reads as advice-walk-reads
-use Rattle.walks.proofs.away_turn.Reads as away-turn-reads
-use Rattle.walks.proofs.one_shot_walk.Reads as one-shot-walk-reads
+use Rattle.plans.proofs.static_from.Reads as static-from-reads
+use Rattle.rounds.proofs.dynamic_walk.Reads as dynamic-walk-reads
+use Rattle.rounds.proofs.advice_walk.Reads as advice-walk-reads
+use Rattle.losses.proofs.away_turn.Reads as away-turn-reads
+use Rattle.strikes.proofs.one_shot_walk.Reads as one-shot-walk-reads
 use Rattle.asking.proofs.judge_number.Reads as judge-number-reads
 use Rattle.asking.proofs.judge_position.Reads as judge-position-reads
 use Rattle.asking.proofs.filled.Reads as filled-reads
@@ -137,11 +158,15 @@ use Rattle.planner.proofs.one_shot_verdict.Reads as one-shot-verdict-reads
 use Rattle.planner.proofs.dynamic_verdict.Reads as dynamic-verdict-reads
 use Rattle.planner.proofs.advice.Reads as advice-reads
 use Rattle.planner.proofs.away.Reads as away-reads
+use Rattle.planner.proofs.plan_good.Reads as plan-good-reads
 use Rattle.planner.proofs.plan_ready.Reads as plan-ready-reads
 use Rattle.planner.proofs.plan_laid.Reads as plan-laid-reads
+use Rattle.planner.proofs.ask_good.Reads as ask-good-reads
 use Rattle.planner.proofs.ask_ready.Reads as ask-ready-reads
 use Rattle.planner.proofs.ask_laid.Reads as ask-laid-reads
+use Rattle.planner.proofs.advise_good.Reads as advise-good-reads
 use Rattle.planner.proofs.advise_ready.Reads as advise-ready-reads
+use Rattle.planner.proofs.away_good.Reads as away-good-reads
 use Rattle.planner.proofs.away_ready.Reads as away-ready-reads
 use Rattle.telling.proofs.tell.Reads as tell-reads
 use Rattle.telling.proofs.text.Text.empty.Reads as text-empty-reads
@@ -212,18 +237,31 @@ verdict-same l r s e = sym (back r) ∙ ap (λ (a : Answer (Option ℕ)). verdic
     back (verdict.Yes n) = refl
     back (verdict.No p n) = ap (λ q. verdict.No q n) (stored-number p)
 
-abbrev advised-back : Ended (Option ℕ) → ℕ → Advised
+abbrev advised-back : Ended (Option (ℕ × Done)) → ℕ → Advised
 advised-back limit n = advised.Limit
 advised-back (ended none) n = advised.Nobody n
-advised-back (ended (some u)) n = advised.Person (record { 0 = u }) n
+advised-back (ended (some (u, d))) n = advised.Move (record { 0 = d .step }) (record { 0 = u }) n
 
 advised-same : (l : ℕ) (r s : Advised) → advisedOutcome l r ≡ advisedOutcome l s → r ≡ s
-advised-same l r s e = sym (back r) ∙ ap (λ (a : Answer (Option ℕ)). advised-back (a .out) (a .count)) e ∙ back s
+advised-same l r s e = sym (back r) ∙ ap (λ (a : Answer (Option (ℕ × Done))). advised-back (a .out) (a .count)) e ∙ back s
   where
     back : (x : Advised) → advised-back (advisedOutcome l x .out) (advisedOutcome l x .count) ≡ x
     back advised.Limit = refl
     back (advised.Nobody n) = refl
-    back (advised.Person v n) = refl
+    back (advised.Move s v n) = refl
+
+abbrev turn-back : Ended (Option ℕ) → ℕ → Turn
+turn-back limit n = turn.Limit
+turn-back (ended none) n = turn.Holds n
+turn-back (ended (some A)) n = turn.Beaten n
+
+turn-same : (l A : ℕ) (r s : Turn) → turnOutcome l A r ≡ turnOutcome l A s → r ≡ s
+turn-same l A r s e = sym (back r) ∙ ap (λ (a : Answer (Option ℕ)). turn-back (a .out) (a .count)) e ∙ back s
+  where
+    back : (x : Turn) → turn-back (turnOutcome l A x .out) (turnOutcome l A x .count) ≡ x
+    back turn.Limit = refl
+    back (turn.Beaten n) = refl
+    back (turn.Holds n) = refl
 
 abbrev spent-back : Option ℕ → Spent
 spent-back none = spent.Limit
@@ -273,6 +311,12 @@ in-line-same b n A f r s p q = line-same r s same (p .fit ∙ ap (λ (T : ℕ). 
   where
     same : number (r .tried) ≡ number (s .tried)
     same = p .tried ∙ sym (q .tried)
+
+absences-same : (r s : Absences) → number (r .held) ≡ number (s .held) → r .room ≡ s .room → r .weights ≡ s .weights → r ≡ s
+absences-same r s h e w =
+    ap (λ (x : People). record { held = x; room = r .room; weights = r .weights }) (number-injective (r .held) (s .held) h)
+    ∙ ap (λ (x : ℕ). record { held = s .held; room = x; weights = r .weights }) e
+    ∙ ap (λ (x : List ℕ). record { held = s .held; room = s .room; weights = x }) w
 
 -- ---- `sets`: Sets
 
@@ -398,6 +442,9 @@ filled-placed-one κs args r s x y p q = p ∙ sym q
 pub with-step-one : (κs : _) (args : _) (r s : _) (x y : _) → with-step-reads.Post κs args r x → with-step-reads.Post κs args s y → r ≡ s
 with-step-one κs args r s x y p q = p ∙ sym q
 
+pub joined-steps-one : (κs : _) (args : _) (r s : _) (x y : _) → joined-steps-reads.Post κs args r x → joined-steps-reads.Post κs args s y → r ≡ s
+joined-steps-one κs args r s x y p q = p ∙ sym q
+
 pub case-empty-one : (κs : _) (args : _) (r s : _) (x y : _) → case-empty-reads.Post κs args r x → case-empty-reads.Post κs args s y → r ≡ s
 case-empty-one κs args r s x y p q = p ∙ sym q
 
@@ -499,19 +546,19 @@ allowed-one κs args r s x y p q = number-injective r s (p ∙ sym q)
 pub ready-one : (κs : _) (args : _) (r s : _) (x y : _) → ready-reads.Post κs args r x → ready-reads.Post κs args s y → r ≡ s
 ready-one κs args r s x y p q = p ∙ sym q
 
-pub settled-one : (κs : _) (args : _) (r s : _) (x y : _) → settled-reads.Post κs args r x → settled-reads.Post κs args s y → r ≡ s
-settled-one κs args r s x y p q = p ∙ sym q
-
 pub fits-one : (κs : _) (args : _) (r s : _) (x y : _) → fits-reads.Post κs args r x → fits-reads.Post κs args s y → r ≡ s
 fits-one κs args r s x y p q = number-injective r s (p ∙ sym q)
 
-pub due-one : (κs : _) (args : _) (r s : _) (x y : _) → due-reads.Post κs args r x → due-reads.Post κs args s y → r ≡ s
-due-one κs args r s x y p q = p ∙ sym q
+pub fitting-one : (κs : _) (args : _) (r s : _) (x y : _) → fitting-reads.Post κs args r x → fitting-reads.Post κs args s y → r .people ≡ s .people
+fitting-one κs args r s x y p q = number-injective (r .people) (s .people) (p _ (agree-same _ _) ∙ sym (q _ (agree-same _ _)))
 
 -- ---- `laying`: A case laid out
 
 pub lay-out-one : (κs : _) (args : _) (r s : _) (x y : _) → lay-out-reads.Post κs args r x → lay-out-reads.Post κs args s y → r ≡ s
 lay-out-one κs args r s x y p q = p ∙ sym q
+
+pub lay-onto-one : (κs : _) (args : _) (r s : _) (x y : _) → lay-onto-reads.Post κs args r x → lay-onto-reads.Post κs args s y → now (x .0) ≡ now (y .0)
+lay-onto-one κs args r s x y p q = p ∙ sym q
 
 -- ---- `lines`: The moves at a position
 
@@ -529,8 +576,14 @@ next-move-one κs args r s x y p q = move-same r s (p ∙ sym q)
 pub next-step-one : (κs : _) (args : _) (r s : _) (x y : _) → next-step-reads.Post κs args r x → next-step-reads.Post κs args s y → r ≡ s
 next-step-one κs args r s x y p q = ap (λ (v : ℕ). record { 0 = v }) (p ∙ sym q)
 
-pub line-up-one : (κs : _) (args : _) (r s : _) (x y : _) → line-up-reads.Post κs args r x → line-up-reads.Post κs args s y → r ≡ s
-line-up-one κs args r s x y p q = in-line-same _ _ _ _ r s p q
+pub several-one : (κs : _) (args : _) (r s : _) (x y : _) → several-reads.Post κs args r x → several-reads.Post κs args s y → r ≡ s
+several-one κs args r s x y p q = p ∙ sym q
+
+pub line-up-one : (κs : _) (args : _) (r s : _) (x y : _) → line-up-reads.Post κs args r x → line-up-reads.Post κs args s y → r .line ≡ s .line
+line-up-one κs args r s x y p q = in-line-same _ _ _ _ (r .line) (s .line) (p _ (agree-same _ _)) (q _ (agree-same _ _))
+
+pub lines-up-one : (κs : _) (args : _) (r s : _) (x y : _) → lines-up-reads.Post κs args r x → lines-up-reads.Post κs args s y → linesOf (r .lines) ≡ linesOf (s .lines)
+lines-up-one κs args r s x y p q = p .lines _ (agree-same _ _) ∙ sym (q .lines _ (agree-same _ _))
 
 pub next-try-one : (κs : _) (args : _) (r s : _) (x y : _) → next-try-reads.Post κs args r x → next-try-reads.Post κs args s y → r ≡ s
 next-try-one κs args r s x y p q = try-same r s (p ∙ sym q)
@@ -550,12 +603,48 @@ all-bad-one κs args r s x y p q = verdict-same _ r s (p ∙ sym q)
 pub all-good-one : (κs : _) (args : _) (r s : _) (x y : _) → all-good-reads.Post κs args r x → all-good-reads.Post κs args s y → r ≡ s
 all-good-one κs args r s x y p q = verdict-same _ r s (p ∙ sym q)
 
+-- ---- `sums`: Sums over absence sets
+
+pub once-one : (κs : _) (args : _) (r s : _) (x y : _) → once-reads.Post κs args r x → once-reads.Post κs args s y → r ≡ s
+once-one κs args r s x y p q = p ∙ sym q
+
+pub product-one : (κs : _) (args : _) (r s : _) (x y : _) → product-reads.Post κs args r x → product-reads.Post κs args s y → r ≡ s
+product-one κs args r s x y p q = p ∙ sym q
+
+pub added-one : (κs : _) (args : _) (r s : _) (x y : _) → added-reads.Post κs args r x → added-reads.Post κs args s y → r ≡ s
+added-one κs args r s x y p q = p ∙ sym q
+
+pub how-many-one : (κs : _) (args : _) (r s : _) (x y : _) → how-many-reads.Post κs args r x → how-many-reads.Post κs args s y → r ≡ s
+how-many-one κs args r s x y p q = p ∙ sym q
+
+pub weight-one : (κs : _) (args : _) (r s : _) (x y : _) → weight-reads.Post κs args r x → weight-reads.Post κs args s y → r ≡ s
+weight-one κs args r s x y p q = p ∙ sym q
+
+pub trials-to-one : (κs : _) (args : _) (r s : _) (x y : _) → trials-to-reads.Post κs args r x → trials-to-reads.Post κs args s y → r ≡ s
+trials-to-one κs args r s x y p q = p ∙ sym q
+
+pub staying-one : (κs : _) (args : _) (r s : _) (x y : _) → staying-reads.Post κs args r x → staying-reads.Post κs args s y → r ≡ s
+staying-one κs args r s x y p q = p ∙ sym q
+
+pub joined-one : (κs : _) (args : _) (r s : _) (x y : _) → joined-reads.Post κs args r x → joined-reads.Post κs args s y → r ≡ s
+joined-one κs args r s x y p q = absences-same r s (p .held ∙ sym (q .held)) (omega (arith, p .room, q .room)) (p .weights ∙ sym (q .weights))
+
+pub raised-one : (κs : _) (args : _) (r s : _) (x y : _) → raised-reads.Post κs args r x → raised-reads.Post κs args s y
+    → (r .held ≡ s .held) × (r .room ≡ s .room) × ((u : ℕ) → u < width → weightOf r u ≡ weightOf s u)
+raised-one κs args r s x y p q = (p .held ∙ sym (q .held), p .room ∙ sym (q .room), λ u h. p .weights u h ∙ sym (q .weights u h))
+
 -- ---- `plans`: The searches for a plan
+
+pub without-plan-one : (κs : _) (args : _) (r s : _) (x y : _) → without-plan-reads.Post κs args r x → without-plan-reads.Post κs args s y → r .turn ≡ s .turn
+without-plan-one κs args r s x y p q = turn-same _ _ (r .turn) (s .turn) (p _ (agree-same _ _) ∙ sym (q _ (agree-same _ _)))
 
 pub static-walk-one : (κs : _) (args : _) (r s : _) (x y : _) → static-walk-reads.Post κs args r x → static-walk-reads.Post κs args s y → r ≡ s
 static-walk-one κs args r s x y p q = verdict-same _ r s (p ∙ sym q)
 
--- ---- `walks`: The searches against absences round by round
+pub static-from-one : (κs : _) (args : _) (r s : _) (x y : _) → static-from-reads.Post κs args r x → static-from-reads.Post κs args s y → r .verdict ≡ s .verdict
+static-from-one κs args r s x y p q = verdict-same _ (r .verdict) (s .verdict) (p _ (agree-same _ _) ∙ sym (q _ (agree-same _ _)))
+
+-- ---- `rounds`: The searches of the dynamic game
 
 pub dynamic-walk-one : (κs : _) (args : _) (r s : _) (x y : _) → dynamic-walk-reads.Post κs args r x → dynamic-walk-reads.Post κs args s y → r ≡ s
 dynamic-walk-one κs args r s x y p q = verdict-same _ r s (p ∙ sym q)
@@ -563,8 +652,12 @@ dynamic-walk-one κs args r s x y p q = verdict-same _ r s (p ∙ sym q)
 pub advice-walk-one : (κs : _) (args : _) (r s : _) (x y : _) → advice-walk-reads.Post κs args r x → advice-walk-reads.Post κs args s y → r ≡ s
 advice-walk-one κs args r s x y p q = advised-same _ r s (p ∙ sym q)
 
+-- ---- `losses`: The searches of the decremental game
+
 pub away-turn-one : (κs : _) (args : _) (r s : _) (x y : _) → away-turn-reads.Post κs args r x → away-turn-reads.Post κs args s y → r ≡ s
 away-turn-one κs args r s x y p q = verdict-same _ r s (p ∙ sym q)
+
+-- ---- `strikes`: The searches of the one-shot game
 
 pub one-shot-walk-one : (κs : _) (args : _) (r s : _) (x y : _) → one-shot-walk-reads.Post κs args r x → one-shot-walk-reads.Post κs args s y → r ≡ s
 one-shot-walk-one κs args r s x y p q = verdict-same _ r s (p ∙ sym q)
@@ -606,11 +699,17 @@ advice-one κs args r s x y p q = p ∙ sym q
 pub away-one : (κs : _) (args : _) (r s : _) (x y : _) → away-reads.Post κs args r x → away-reads.Post κs args s y → r ≡ s
 away-one κs args r s x y p q = p ∙ sym q
 
+pub plan-good-one : (κs : _) (args : _) (r s : _) (x y : _) → plan-good-reads.Post κs args r x → plan-good-reads.Post κs args s y → r ≡ s
+plan-good-one κs args r s x y p q = p ∙ sym q
+
 pub plan-ready-one : (κs : _) (args : _) (r s : _) (x y : _) → plan-ready-reads.Post κs args r x → plan-ready-reads.Post κs args s y → r ≡ s
 plan-ready-one κs args r s x y p q = p ∙ sym q
 
 pub plan-laid-one : (κs : _) (args : _) (r s : _) (x y : _) → plan-laid-reads.Post κs args r x → plan-laid-reads.Post κs args s y → r ≡ s
 plan-laid-one κs args r s x y p q = p ∙ sym q
+
+pub ask-good-one : (κs : _) (args : _) (r s : _) (x y : _) → ask-good-reads.Post κs args r x → ask-good-reads.Post κs args s y → r ≡ s
+ask-good-one κs args r s x y p q = p ∙ sym q
 
 pub ask-ready-one : (κs : _) (args : _) (r s : _) (x y : _) → ask-ready-reads.Post κs args r x → ask-ready-reads.Post κs args s y → r ≡ s
 ask-ready-one κs args r s x y p q = p ∙ sym q
@@ -618,8 +717,14 @@ ask-ready-one κs args r s x y p q = p ∙ sym q
 pub ask-laid-one : (κs : _) (args : _) (r s : _) (x y : _) → ask-laid-reads.Post κs args r x → ask-laid-reads.Post κs args s y → r ≡ s
 ask-laid-one κs args r s x y p q = p ∙ sym q
 
+pub advise-good-one : (κs : _) (args : _) (r s : _) (x y : _) → advise-good-reads.Post κs args r x → advise-good-reads.Post κs args s y → r ≡ s
+advise-good-one κs args r s x y p q = p ∙ sym q
+
 pub advise-ready-one : (κs : _) (args : _) (r s : _) (x y : _) → advise-ready-reads.Post κs args r x → advise-ready-reads.Post κs args s y → r ≡ s
 advise-ready-one κs args r s x y p q = p ∙ sym q
+
+pub away-good-one : (κs : _) (args : _) (r s : _) (x y : _) → away-good-reads.Post κs args r x → away-good-reads.Post κs args s y → r ≡ s
+away-good-one κs args r s x y p q = p ∙ sym q
 
 pub away-ready-one : (κs : _) (args : _) (r s : _) (x y : _) → away-ready-reads.Post κs args r x → away-ready-reads.Post κs args s y → r ≡ s
 away-ready-one κs args r s x y p q = p ∙ sym q

@@ -20,11 +20,13 @@ use Rattle.refusals.specs.declared.Refusal.{Refusal}
 use Rattle.refusals.specs.declared.Judged.{Judged}
 use Rattle.refusals.specs.declared.Judged.the-variants.{Good, Refused}
 use Rattle.refusals.specs.Refusals.{refusal}
+use Rattle.refusals.specs.CaseChecks.{judgedCase}
 use Rattle.layout.specs.Layout.{caseOf}
 use Rattle.files.specs.declared.FileRead.{FileRead}
 use Rattle.files.specs.Checks.{judgedFile}
 use Rattle.files.specs.Reading.{readOf}
 use Rattle.files.specs.Reading as reading
+use Rattle.files.proofs.Nothing.{read-case-good}
 use Rattle.asking.specs.Asking.{judgedAway}
 use Rattle.planner.specs.declared.AdviceAnswer.{AdviceAnswer}
 use Rattle.planner.specs.declared.AdviceAnswer.the-variants as advice
@@ -57,6 +59,10 @@ module _ (f : List ℕ) {r : FileRead} (e : r ≡ readOf f) where
   held-read : r .judged ≡ Good → r .held ≡ caseOf f
   unfolding readOf
   held-read h = ap (λ (x : FileRead). x .held) e ∙ ap (λ j. reading.ifGood j (caseOf f) emptyCase) (sym judged-read ∙ h)
+
+  -- the case that was read is good
+  pub case-good : r .judged ≡ Good → judgedCase (r .held) ≡ Good
+  case-good h = ap (λ (x : FileRead). judgedCase (x .held)) e ∙ read-case-good f (sym judged-read ∙ h)
 
   -- what is said of the case that was read
   pub case-told : (F : Case → List ℕ) {o : List ℕ} → r .judged ≡ Good → o ≡ F (r .held) → o ≡ ifGood (judgedFile f) (F (caseOf f))

@@ -1,6 +1,7 @@
 // The planner for other languages: functions that C and Rust call, on a file's bytes and plain numbers. Each reads the case from its file, asks the
 // planner, and leaves one answer of 18 numbers in the caller's array; specs/Replies.antt says what stands at each place. A refused file is asked
-// nothing. No exported function has a `requires`, none keeps anything, and nothing but the caller's answer or text is written.
+// nothing; the case of a good one is judged once, when it is read. No exported function has a `requires`, none keeps anything, and nothing but the
+// caller's answer or text is written.
 mod pairs;
 mod replies;
 
@@ -11,13 +12,11 @@ use files::judge;
 use files::read;
 use pairs::position_of;
 use planner::AwayAnswer;
-use planner::advice;
-use planner::away;
-use planner::decremental_verdict;
-use planner::dynamic_verdict;
-use planner::one_shot_verdict;
-use planner::plan;
-use planner::static_verdict;
+use planner::Question;
+use planner::advise_good;
+use planner::ask_good;
+use planner::away_good;
+use planner::plan_good;
 use refusals::Judged;
 use refusals::Refusal;
 use replies::advice_reply;
@@ -36,6 +35,7 @@ ghost use lib.ListN.{length, take};
 ghost use Rattle.sets.specs.Stored.{fromWords};
 ghost use Rattle.cases.specs.Positions.{persons};
 ghost use Rattle.refusals.specs.Refusals.{refusal};
+ghost use Rattle.refusals.specs.CaseChecks.{judgedCase};
 ghost use Rattle.asking.specs.Asking.{judgedAway};
 ghost use Rattle.telling.specs.Telling.{textOf};
 ghost use Rattle.rodcrank.specs.Calls.{judgeFile, planFile, staticFile, decrementalFile, oneShotFile, dynamicFile, unknownAbsent, adviceOn, adviceFile, awayFile, filledWith};
@@ -73,7 +73,7 @@ pub extern "C" fn rodcrank_plan(file: &[u8], limit: u32, out: &mut [u64; NUMBERS
             *out = refused(refusal);
         }
         Judged::Good => {
-            *out = plan_reply(plan(got.held, limit));
+            *out = plan_reply(plan_good(got.held, limit));
         }
     }
 }
@@ -90,7 +90,7 @@ pub extern "C" fn rodcrank_static(file: &[u8], t: u32, limit: u32, out: &mut [u6
             *out = refused(refusal);
         }
         Judged::Good => {
-            *out = verdict_reply(static_verdict(got.held, t, limit));
+            *out = verdict_reply(ask_good(Question::Static, got.held, t, limit));
         }
     }
 }
@@ -107,7 +107,7 @@ pub extern "C" fn rodcrank_decremental(file: &[u8], t: u32, limit: u32, out: &mu
             *out = refused(refusal);
         }
         Judged::Good => {
-            *out = verdict_reply(decremental_verdict(got.held, t, limit));
+            *out = verdict_reply(ask_good(Question::Decremental, got.held, t, limit));
         }
     }
 }
@@ -124,7 +124,7 @@ pub extern "C" fn rodcrank_one_shot(file: &[u8], t: u32, limit: u32, out: &mut [
             *out = refused(refusal);
         }
         Judged::Good => {
-            *out = verdict_reply(one_shot_verdict(got.held, t, limit));
+            *out = verdict_reply(ask_good(Question::OneShot, got.held, t, limit));
         }
     }
 }
@@ -141,7 +141,7 @@ pub extern "C" fn rodcrank_dynamic(file: &[u8], t: u32, limit: u32, out: &mut [u
             *out = refused(refusal);
         }
         Judged::Good => {
-            *out = verdict_reply(dynamic_verdict(got.held, t, limit));
+            *out = verdict_reply(ask_good(Question::Dynamic, got.held, t, limit));
         }
     }
 }
@@ -192,7 +192,7 @@ pub extern "C" fn rodcrank_away(
         }
         Judged::Good => {
             let p = position_of(position);
-            *out = away_reply(away(got.held, p, t, limit));
+            *out = away_reply(away_good(got.held, p, t, limit));
         }
     }
 }
@@ -211,19 +211,21 @@ pub extern "C" fn rodcrank_verdicts(input: &[u8], buffer: &mut [u8]) -> usize
 
 // Advice where the absentees fit into a set; somebody past the width is unknown.
 fn advise(case: Case, p: Position, t: u32, low: u64, high: u64, limit: u32) -> [u64; NUMBERS]
+    requires { ⌜ judgedCase case ≡ Judged.Good ⌝ }
     ensures { λ r. ⌜ r ≡ adviceOn case (persons p) t (fromWords low high) limit ⌝ }
 {
     match People::from_words(low, high) {
-        Wide::Set(absent) => advice_reply(Step(p.len), advice(case, p, t, absent, limit)),
+        Wide::Set(absent) => advice_reply(Step(p.len), advise_good(case, p, t, absent, limit)),
         Wide::Past => refused(unknown_absent(case, p, t)),
     }
 }
 
 // The refusal of advice with an unknown absentee: 14, unless something is met that comes before it. That is what away is refused by; no trial is made.
 fn unknown_absent(case: Case, p: Position, t: u32) -> Refusal
+    requires { ⌜ judgedCase case ≡ Judged.Good ⌝ }
     ensures { λ r. ⌜ r ≡ unknownAbsent (judgedAway case (persons p) t) ⌝ }
 {
-    match away(case, p, t, 0) {
+    match away_good(case, p, t, 0) {
         AwayAnswer::Refused(refusal) => refusal,
         AwayAnswer::Limit(_) => names_unknown(),
         AwayAnswer::Nobody(_) => names_unknown(),

@@ -1,6 +1,6 @@
 -- The sets of at most t people come in blocks: first those without the last person, then those with.
 use mathlib.Core.Path.{_≡_, refl, sym, ap, ap₂, _∙_}
-use mathlib.Core.Bool.{Bool, true, false, _&&_, true≢false}
+use mathlib.Core.Bool.{Bool, true, false, not, _&&_, _||_, true≢false}
 use mathlib.Core.List.{List, [], _∷_, _++_, map, append-nil, append-assoc}
 use Prim.Native.Nat.{ℕ, zero, suc, _+_, _-_, _*_, _^_, _≤_, _<_, min}
 use native.Mathlib.Nat.{pow-suc, suc-add, zero-add}
@@ -12,9 +12,9 @@ use lib.Pow.{pow-mono}
 use Rattle.sets.specs.Lists.{_∈_, from, upto, consIf, keep}
 use Rattle.sets.specs.Sets.{has, bit, count, size, within, sets}
 use Rattle.sets.proofs.Lists.{and-true-end, and-false-end, from-lo, from-hi, from-append, upto-in, keep-append, keep-cong, keep-keep, keep-nothing, keep-everything}
-use Rattle.sets.proofs.Bits.{bit-le, has-above, has-empty, has-low, has-top}
+use Rattle.sets.proofs.Bits.{bit-le, has-above, has-empty, has-low, has-top, joined-low, joined-last}
 use Rattle.sets.proofs.Counting.{count-ext, size-width}
-use Rattle.sets.proofs.Listed.{mem-within, sets-apart}
+use Rattle.sets.proofs.Listed.{mem-within, within-cong, sets-apart}
 
 -- ---- lists
 
@@ -68,40 +68,65 @@ upto-blocks n =
     let double : 2 ^ suc n ≡ 2 ^ n + 2 ^ n = omega (arith, pow-suc 2 n) in
     ap (from 0) double ∙ from-append 0 (2 ^ n) (2 ^ n) ∙ ap (λ (l : List ℕ). from 0 (2 ^ n) ++ l) (from-up (2 ^ n) 0 (2 ^ n))
 
-module _ (n t : ℕ) where
-  blocks : sets (suc n) t 0 ≡ sets n t 0 ++ map (λ s. s + 2 ^ n) (keep (λ s. leb (suc (size n s)) t) (upto (2 ^ n)))
-  blocks =
-      sets-few (suc n) t
-      ∙ ap (keep (λ s. leb (size (suc n) s) t)) (upto-blocks n)
-      ∙ keep-append (λ s. leb (size (suc n) s) t) (upto (2 ^ n)) (map (λ s. s + 2 ^ n) (upto (2 ^ n)))
-      ∙ ap₂ _++_ (same ∙ sym (sets-few n t)) (keep-map (λ s. s + 2 ^ n) (λ s. leb (size (suc n) s) t) (upto (2 ^ n)) ∙ ap (map (λ s. s + 2 ^ n)) joined)
-    where
-      same : keep (λ s. leb (size (suc n) s) t) (upto (2 ^ n)) ≡ keep (λ s. leb (size n s) t) (upto (2 ^ n))
-      same = keep-cong _ _ (upto (2 ^ n)) (λ s m. ap (λ (x : ℕ). leb x t) (size-below n s (upto-in (2 ^ n) s m)))
+-- a set of at most t of n people that contains c
+abbrev listed : ℕ → ℕ → ℕ → ℕ → Bool
+listed n t c s = within n c s && leb (size n s) t
 
-      joined : keep (λ s. leb (size (suc n) (s + 2 ^ n)) t) (upto (2 ^ n)) ≡ keep (λ s. leb (suc (size n s)) t) (upto (2 ^ n))
-      joined = keep-cong _ _ (upto (2 ^ n)) (λ s m. ap (λ (x : ℕ). leb x t) (size-with n s (upto-in (2 ^ n) s m)))
+blocks : (n t c : ℕ) → sets (suc n) t c ≡ keep (listed (suc n) t c) (upto (2 ^ n)) ++ map (λ s. s + 2 ^ n) (keep (λ s. listed (suc n) t c (s + 2 ^ n)) (upto (2 ^ n)))
+unfolding sets
+blocks n t c =
+    ap (keep (listed (suc n) t c)) (upto-blocks n)
+    ∙ keep-append (listed (suc n) t c) (upto (2 ^ n)) (map (λ s. s + 2 ^ n) (upto (2 ^ n)))
+    ∙ ap (λ (l : List ℕ). keep (listed (suc n) t c) (upto (2 ^ n)) ++ l) (keep-map (λ s. s + 2 ^ n) (listed (suc n) t c) (upto (2 ^ n)))
 
--- where one person may be away: those without the last person, then those with, who leave one less
-pub sets-blocks : (n t : ℕ) → sets (suc n) (suc t) 0 ≡ sets n (suc t) 0 ++ map (λ s. s + 2 ^ n) (sets n t 0)
-sets-blocks n t =
-    blocks n (suc t)
-    ∙ ap (λ (l : List ℕ). sets n (suc t) 0 ++ map (λ s. s + 2 ^ n) l)
-    (keep-cong _ _ (upto (2 ^ n)) (λ s m. less (size n s)) ∙ sym (sets-few n t))
+less : (x t : ℕ) → leb (suc x) (suc t) ≡ leb x t
+less x t = go (decLt t x)
   where
-    less : (x : ℕ) → leb (suc x) (suc t) ≡ leb x t
-    less x = go (decLt t x)
-      where
-        go : Dec (t < x) → leb (suc x) (suc t) ≡ leb x t
-        go (yes l) = lt-leb (suc x) (suc t) (omega arith) ∙ sym (lt-leb x t l)
-        go (no l) = le-leb (suc x) (suc t) (omega arith) ∙ sym (le-leb x t (omega arith))
+    go : Dec (t < x) → leb (suc x) (suc t) ≡ leb x t
+    go (yes l) = lt-leb (suc x) (suc t) (omega arith) ∙ sym (lt-leb x t l)
+    go (no l) = le-leb (suc x) (suc t) (omega arith) ∙ sym (le-leb x t (omega arith))
 
--- where nobody may be away one person more adds nothing
-pub sets-nobody : (n : ℕ) → sets (suc n) 0 0 ≡ sets n 0 0
-sets-nobody n =
-    blocks n 0
-    ∙ ap (λ (l : List ℕ). sets n 0 0 ++ map (λ s. s + 2 ^ n) l) (keep-nothing (λ s. leb (suc (size n s)) 0) (upto (2 ^ n)) (λ s m. lt-leb (suc (size n s)) 0 (omega arith)))
-    ∙ append-nil (sets n 0 0)
+module _ (n c : ℕ) (fits : c < 2 ^ n) where
+  -- the last person need not be there
+  within-free : (s : ℕ) → within (suc n) c s ≡ within n c s
+  unfolding within
+  within-free s = ap (λ (b : Bool). (not b || has s n) && within n c s) (has-above n c fits)
+
+  free-lower : (t : ℕ) → keep (listed (suc n) t c) (upto (2 ^ n)) ≡ sets n t c
+  unfolding sets
+  free-lower t = keep-cong _ _ (upto (2 ^ n)) (λ s m. ap₂ (λ (b : Bool) (x : ℕ). b && leb x t) (within-free s) (size-below n s (upto-in (2 ^ n) s m)))
+
+  free-upper : (t s : ℕ) → s < 2 ^ n → listed (suc n) t c (s + 2 ^ n) ≡ within n c s && leb (suc (size n s)) t
+  free-upper t s l =
+      ap₂ (λ (b : Bool) (x : ℕ). b && leb x t) (within-free (s + 2 ^ n) ∙ within-cong n c c (s + 2 ^ n) s (λ u k. refl) (joined-low n s)) (size-with n s l)
+
+  -- where one person may be away besides: the sets without the last person, then those with, who leave one less
+  pub sets-blocks : (t : ℕ) → sets (suc n) (suc t) c ≡ sets n (suc t) c ++ map (λ s. s + 2 ^ n) (sets n t c)
+  unfolding sets
+  sets-blocks t =
+      blocks n (suc t) c
+      ∙ ap₂ (λ (k l : List ℕ). k ++ map (λ s. s + 2 ^ n) l) (free-lower (suc t))
+      (keep-cong _ _ (upto (2 ^ n)) (λ s m. free-upper (suc t) s (upto-in (2 ^ n) s m) ∙ ap (λ (b : Bool). within n c s && b) (less (size n s) t)))
+
+  -- where nobody may be away one person more adds nothing
+  pub sets-nobody : sets (suc n) 0 c ≡ sets n 0 c
+  sets-nobody =
+      blocks n 0 c
+      ∙ ap₂ (λ (k l : List ℕ). k ++ map (λ s. s + 2 ^ n) l) (free-lower 0)
+      (keep-nothing _ (upto (2 ^ n)) (λ s m. free-upper 0 s (upto-in (2 ^ n) s m) ∙ ap (λ (b : Bool). within n c s && b) (lt-leb (suc (size n s)) 0 (omega arith)) ∙ and-false-end (within n c s)))
+      ∙ append-nil (sets n 0 c)
+
+  -- where the last person is away anyhow: the sets of the others, who are one less
+  pub sets-held : (t : ℕ) → sets (suc n) (suc t) (c + 2 ^ n) ≡ map (λ s. s + 2 ^ n) (sets n t c)
+  unfolding within sets
+  sets-held t =
+      blocks n (suc t) (c + 2 ^ n)
+      ∙ ap₂ (λ (k l : List ℕ). k ++ map (λ s. s + 2 ^ n) l)
+      (keep-nothing _ (upto (2 ^ n)) (λ s m.
+      ap₂ (λ (a b : Bool). ((not a || b) && within n (c + 2 ^ n) s) && leb (size (suc n) s) (suc t)) (joined-last n c fits) (has-above n s (upto-in (2 ^ n) s m))))
+      (keep-cong _ _ (upto (2 ^ n)) (λ s m. let l = upto-in (2 ^ n) s m in
+      ap₂ (λ (a b : Bool). ((not a || b) && within n (c + 2 ^ n) (s + 2 ^ n)) && leb (size (suc n) (s + 2 ^ n)) (suc t)) (joined-last n c fits) (joined-last n s l)
+      ∙ ap₂ _&&_ (within-cong n (c + 2 ^ n) c (s + 2 ^ n) s (joined-low n c) (joined-low n s)) (ap (λ (x : ℕ). leb x (suc t)) (size-with n s l) ∙ less (size n s) t)))
 
 -- ---- the first blocks
 

@@ -1,5 +1,6 @@
 // The lines, each put at the end of a text.
 use crate::Text;
+use crate::room::add_number;
 use cases::Counts;
 use cases::Position;
 use planner::PlanAnswer;
@@ -15,7 +16,7 @@ ghost use Rattle.sets.specs.Sets.{has, members};
 ghost use Rattle.sets.specs.Stored.{width, number};
 ghost use Rattle.cases.specs.Positions.{persons};
 ghost use Rattle.telling.specs.Lines.{decimal, spaced};
-ghost use Rattle.telling.specs.Held.{put};
+ghost use Rattle.telling.specs.Held.{text, put};
 ghost use Rattle.telling.specs.Telling.{listed, trials, refused, caseLine, askedLine, planLine, verdictLine, refusedLine};
 
 // The counts: people, steps, roles, tables, rules.
@@ -104,13 +105,24 @@ fn put_persons(text: Text, p: Position) -> Text
 fn each_person(text: Text, p: Position) -> Text
     ensures { λ r. ⌜ r ≡ put text (spaced (map decimal (persons p))) ⌝ }
 {
-    let mut longer = text;
+    let mut bytes = text.bytes;
+    let len = add_persons(&mut bytes, text.len, p);
+    Text {
+        bytes: bytes,
+        len: len,
+    }
+}
+
+fn add_persons(bytes: &mut [u8; Text::ROOM], at: usize, p: Position) -> usize
+    ensures { λ r. ⌜ text (now (bytes .exit)) r ≡ put (text (now (bytes .entry)) at) (spaced (map decimal (persons p))) ⌝ }
+{
+    let mut len = at;
     let mut i: u8 = 0;
     while i < p.len {
-        longer = longer.put_number(p.person(i).0 as u64);
+        len = add_number(bytes, len, p.person(i).0 as u64);
         i += 1;
     }
-    longer
+    len
 }
 
 // The members of a set, ascending, or `none`.
@@ -126,21 +138,32 @@ fn put_set(text: Text, set: People) -> Text
 fn each_member(text: Text, set: People) -> Text
     ensures { λ r. ⌜ r ≡ put text (spaced (map decimal (members width (number set)))) ⌝ }
 {
-    let mut longer = text;
+    let mut bytes = text.bytes;
+    let len = add_members(&mut bytes, text.len, set);
+    Text {
+        bytes: bytes,
+        len: len,
+    }
+}
+
+fn add_members(bytes: &mut [u8; Text::ROOM], at: usize, set: People) -> usize
+    ensures { λ r. ⌜ text (now (bytes .exit)) r ≡ put (text (now (bytes .entry)) at) (spaced (map decimal (members width (number set)))) ⌝ }
+{
+    let mut len = at;
     let mut v: u8 = 0;
     while v < People::WIDTH {
-        longer = put_member(longer, set, v);
+        len = add_member(bytes, len, set, v);
         v += 1;
     }
-    longer
+    len
 }
 
 // Person v, if a member.
-fn put_member(text: Text, set: People, v: u8) -> Text
-    ensures { λ r. ⌜ r ≡ put text (spaced (map decimal (consIf (has (number set) v) v []))) ⌝ }
+fn add_member(bytes: &mut [u8; Text::ROOM], at: usize, set: People, v: u8) -> usize
+    ensures { λ r. ⌜ text (now (bytes .exit)) r ≡ put (text (now (bytes .entry)) at) (spaced (map decimal (consIf (has (number set) v) v []))) ⌝ }
 {
     if set.has(v) {
-        return text.put_number(v as u64);
+        return add_number(bytes, at, v as u64);
     }
-    text
+    at
 }

@@ -1,7 +1,9 @@
 // A text that grows at its end.
+use crate::room::add_number;
+use crate::room::add_word;
 ghost use mathlib.Core.Path.{_≡_};
 ghost use mathlib.Core.List.{[], _∷_};
-ghost use Rattle.telling.specs.Lines.{digits, decimal};
+ghost use Rattle.telling.specs.Lines.{decimal};
 ghost use Rattle.telling.specs.Held.{held, putByte};
 ghost use Rattle.telling.specs.Held.{put as Held·put};
 
@@ -43,33 +45,23 @@ impl Text {
     pub fn put(self, word: &[u8]) -> Text
         ensures { λ r. ⌜ r ≡ Held·put self (now (word .entry)) ⌝ }
     {
-        let mut text = self;
-        let mut i = 0;
-        while i < word.len() {
-            text = text.put_byte(word[i]);
-            i += 1;
+        let mut bytes = self.bytes;
+        let len = add_word(&mut bytes, self.len, word);
+        Text {
+            bytes: bytes,
+            len: len,
         }
-        text
     }
 
     // A space and a number.
     pub fn put_number(self, n: u64) -> Text
         ensures { λ r. ⌜ r ≡ Held·put self (32 ∷ decimal n) ⌝ }
     {
-        self.put_byte(b' ').put_digits(n, 20)
-    }
-
-    // A number of at most `most` digits.
-    fn put_digits(self, n: u64, most: u8) -> Text
-        ensures { λ r. ⌜ r ≡ Held·put self (digits most n) ⌝ }
-    {
-        if most == 0 {
-            return self;
+        let mut bytes = self.bytes;
+        let len = add_number(&mut bytes, self.len, n);
+        Text {
+            bytes: bytes,
+            len: len,
         }
-        if n < 10 {
-            return self.put_byte(48 + n as u8);
-        }
-        self.put_digits(n / 10, most - 1)
-            .put_byte(48 + (n % 10) as u8)
     }
 }

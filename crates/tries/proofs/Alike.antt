@@ -14,18 +14,11 @@ use Rattle.sets.specs.Stored.{width}
 use Rattle.sets.proofs.Lists.{keep-keep, keep-cong, upto-in}
 use Rattle.sets.proofs.Counting.{count-most}
 use Rattle.sets.proofs.Members.{members-length}
-use Rattle.games.specs.Walks.{Walk, Search, plus, plan}
+use Rattle.games.specs.Walks.{Walk, plus}
 use Rattle.games.specs.Limit.{stopped, whole, cut}
-use Rattle.cases.specs.declared.Filled.{Filled}
-use Rattle.boards.specs.Board.{settledOn}
-use Rattle.boards.specs.Arena.{putOn, boardArena}
-use Rattle.tries.specs.Trying.{stepOn}
-use Rattle.tries.specs.WellLaid.{WellLaid}
 use Rattle.tries.specs.Alike.{allTrials, allSpent}
-use Rattle.tries.proofs.Cuts.{finished, ends, stops, plus-zero, only-some, only-none}
+use Rattle.games.proofs.Cuts.{finished, ends, stops, plus-zero, only-some, only-none}
 use Rattle.tries.proofs.Scans.{Step, go, Hunt, turn, judged, scan, Inside, Going}
-use Rattle.tries.proofs.Turns.{planHunt, dynamicHunt, deskHunt, passHunt}
-use Rattle.tries.proofs.Settled.{plan-settled, dynamic-settled, decremental-settled, oneShot-settled}
 
 -- whoever is placed, the judging answers a after c trials
 pub record Alike {A R S : Type 0} (h : Hunt A R S) (a : A) (c : ℕ) : Type 0 where
@@ -116,32 +109,7 @@ module _ (T F used c limit : ℕ) {a m : ℕ} (e : a ≡ size width T) (d : m �
   unfolding allSpent
   spent-within h = ap some sum-is ∙ sym (ap (λ (b : Bool). onlyIf b (allTrials T F used c)) (le-leb (allTrials T F used c) limit (omega (arith, sum-is))))
 
--- ---- the hunts at a step that is settled: what one judging answers, all do
+-- ---- where the step was not looked at: what one judging answers, all do
 
-module _ (b : List ℕ) (n : ℕ) (laid : WellLaid b) (p : Filled) (l v c : ℕ) (settled : settledOn b p (stepOn b p) ≡ true) where
-  pub plan-alike : (A k : ℕ) → whole (record { got = none; trials = c }) ≡ cut l (planHunt b n A k p .sub v) → Alike (planHunt b n A k p) none c
-  plan-alike A k e =
-      let d = finished l (plan (boardArena b n) A k (putOn p v (stepOn b p))) none c e in
-      record {
-        got = λ u. plan-settled b n laid p settled u v A k .1 (d .got);
-        trials = λ u. plan-settled b n laid p settled u v A k .0 ∙ d .trials;
-      }
-
-  module _ (a : Option ℕ) where
-    as-one : {R S : Type 0} (h : Hunt (Option ℕ) R S) → ((u : ℕ) → h .sub u ≡ h .sub v) → whole (record { got = a; trials = c }) ≡ cut l (h .sub v) → Alike h a c
-    as-one h same e =
-        let d = finished l (h .sub v) a c e in
-        record { got = λ u. ap (λ (w : Search ℕ). w .got) (same u) ∙ d .got; trials = λ u. ap (λ (w : Search ℕ). w .trials) (same u) ∙ d .trials }
-
-    pub dynamic-alike : (t k : ℕ) → whole (record { got = a; trials = c }) ≡ cut l (dynamicHunt b n t k p .sub v) → Alike (dynamicHunt b n t k p) a c
-    dynamic-alike t k e = as-one (dynamicHunt b n t k p) (λ u. dynamic-settled b n laid p settled u v t k) e
-
-    pub desk-alike : (t A k : ℕ) → whole (record { got = a; trials = c }) ≡ cut l (deskHunt b n t A k p .sub v) → Alike (deskHunt b n t A k p) a c
-    desk-alike t A k e = as-one (deskHunt b n t A k p) (λ u. decremental-settled b n laid p settled u v t k A) e
-
-    pub pass-alike : (t k : ℕ) → whole (record { got = a; trials = c }) ≡ cut l (passHunt b n t k p .sub v) → Alike (passHunt b n t k p) a c
-    pass-alike t k e = as-one (passHunt b n t k p) (λ u. oneShot-settled b n laid p settled u v t k) e
-
--- what the code tested
-pub is-settled : (b : List ℕ) (p : Filled) (s : ℕ) {r : Bool} → r ≡ settledOn b p s → s ≡ stepOn b p → r ≡ true → settledOn b p (stepOn b p) ≡ true
-is-settled b p s e d h = sym (ap (settledOn b p) d) ∙ sym e ∙ h
+pub alike-by : {A R S : Type 0} (h : Hunt A R S) (l : ℕ) (a : A) (c : ℕ) → ((u : ℕ) → whole (record { got = a; trials = c }) ≡ cut l (h .sub u)) → Alike h a c
+alike-by h l a c e = record { got = λ u. finished l (h .sub u) a c (e u) .got; trials = λ u. finished l (h .sub u) a c (e u) .trials }

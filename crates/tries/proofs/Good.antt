@@ -22,10 +22,9 @@ use Rattle.games.specs.Limit.{stopped, whole, cut}
 use Rattle.cases.specs.declared.Filled.{Filled}
 use Rattle.boards.specs.Board.{fitsOn}
 use Rattle.boards.specs.Arena.{putOn, boardArena}
-use Rattle.tries.specs.Trying.{stepOn, InLine}
-use Rattle.tries.specs.WellLaid.{WellLaid}
+use Rattle.tries.specs.Trying.{stepOn, Alone, InLine}
 use Rattle.tries.specs.Alike.{allTrials, allSpent, memberAt, allBad, goodFrom}
-use Rattle.tries.proofs.Cuts.{plus-zero, ends, stops}
+use Rattle.games.proofs.Cuts.{plus-zero, ends, stops}
 use Rattle.tries.proofs.Scans.{stop, go, Hunt, turn, scan, Inside, has-after, nobody-left, came-to}
 use Rattle.tries.proofs.Lines.{countGood, showing}
 use Rattle.tries.proofs.Turns.{dynamicHunt, dynamic-full, dynamic-going}
@@ -268,16 +267,16 @@ at-next s k v r e d q =
 
 -- ---- the dynamic walk, where k steps are left, at least one
 
-module _ (b : List ℕ) (n k : ℕ) (p : Filled) (T F : ℕ) (some-left : k ≡ 0 → ⊥) (l : n ≤ width) (laid : WellLaid b) (t : ℕ) (line : InLine b n 0 p T F) (c : ℕ) where
+module _ (b : List ℕ) (n k : ℕ) (p : Filled) (T F : ℕ) (some-left : k ≡ 0 → ⊥) (l : n ≤ width) (one : Alone b p) (t : ℕ) (line : InLine b n 0 p T F) (c : ℕ) where
   -- all who fit are bad
   pub dynamic-bad : (x : ℕ) → Alike (dynamicHunt b n t (k - 1) p) (some x) c → allBad T F c ≡ dynamic (boardArena b n) t k p
   unfolding allBad
-  dynamic-bad x alike = sym (all-tried alike (λ u. refl) (dynamic-going b n k p 0 T F some-left l laid t line))
+  dynamic-bad x alike = sym (all-tried alike (λ u. refl) (dynamic-going b n k p 0 T F some-left l one t line))
 
   -- all who fit are good
   pub dynamic-good : Alike (dynamicHunt b n t (k - 1) p) none c → goodFrom T F 0 t c ≡ dynamic (boardArena b n) t k p
   dynamic-good alike =
-      let g = dynamic-going b n k p 0 T F some-left l laid t line in
+      let g = dynamic-going b n k p 0 T F some-left l one t line in
       let small : F < 2 ^ width = subst (λ (x : ℕ). x < 2 ^ width) (sym (line .fit)) (setOf-lt (λ w. has T w && has (fitsOn b p (stepOn b p)) w) width) in
       sym (good-scan t (λ u. dynamic (boardArena b n) t (k - 1) (putOn p u (stepOn b p))) c alike t 0 0 T F (omega arith) (g .inside) small) ∙ sym (g .rest ∙ plus-zero _)
 

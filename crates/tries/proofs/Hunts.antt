@@ -5,16 +5,16 @@ use mathlib.Core.Bool.{Bool, true, false, not, _&&_}
 use mathlib.Core.List.{List, [], _∷_, _++_}
 use Prim.Native.Nat.{ℕ, zero, suc, _+_, _-_, _≤_, _<_, _^_}
 use native.Mathlib.Omega.{arith}
-use borrow.Author.Tests.{le-leb, lt-leb, eqb-true, eqb-false}
-use lib.Dec.{ltb, leb, eqb}
-use lib.ListN.{length}
+use borrow.Author.Tests.{eqb-true, eqb-false}
+use lib.Dec.{eqb}
 use Rattle.sets.specs.Lists.{_∈_, pick, onlyIf, consIf, upto, keep}
 use Rattle.sets.specs.Sets.{has, setFrom, members, common, difference, everybody}
 use Rattle.sets.specs.Stored.{width}
 use Rattle.sets.proofs.Lists.{keep-keep, keep-cong, keep-append, keep-nothing, upto-in, from-lo, from-hi, from-append}
-use Rattle.games.specs.Walks.{Walk, Search, plus, orElse, seek, try, ifNone, ifSome, unbeaten, present, tries, desk, plan, dynamic, decremental, advice, mark, tally, tooFew}
+use Rattle.games.specs.Walks.{Walk, Search, plus, orElse, seek, try, ifNone, ifSome, unbeaten, present, tries, desk, plan, dynamic, decremental, advice, mark, tally}
 use Rattle.tries.specs.Trying.{InLine}
-use Rattle.tries.proofs.Cuts.{plus-plus, plus-zero}
+use Rattle.games.proofs.Cuts.{plus-plus, plus-zero}
+use Rattle.games.proofs.Few.{few, few-plus, few-more, few-enough, few-none, no-more}
 use Rattle.tries.proofs.Scans.{Step, stop, go, Hunt, turn, judged, scan, scan-cong, Inside}
 
 -- ---- a person at a position: a trial where allowed, judged where every rule holds
@@ -86,45 +86,6 @@ oneMore t u (some b) s = pick (eqb (s .0) t) (stop none) (go (s .0 + 1, s .1 + 2
 
 abbrev pub counting : {B : Type 0} → ℕ → (ℕ → Search B) → Hunt (Option B) (Option ℕ) (ℕ × ℕ)
 counting t sub = record { sub = sub; step = oneMore t; last = λ s. some (s .1) }
-
--- k people were found before, who make the set S
-unfoldable pub few : ℕ → ℕ → ℕ → Walk (List ℕ) → Search ℕ
-few t k S w = record { got = onlyIf (leb (k + length (w .got)) t) (S + setFrom (w .got)); trials = w .trials }
-
-few-plus : (t k S c : ℕ) (w : Walk (List ℕ)) → few t k S (record { got = w .got; trials = c + w .trials }) ≡ plus c (few t k S w)
-unfolding few plus
-few-plus t k S c w = refl
-
-few-more : (t k S u c : ℕ) (w : Walk (List ℕ)) → few t k S (record { got = u ∷ w .got; trials = c }) ≡ few t (k + 1) (S + 2 ^ u) (record { got = w .got; trials = c })
-unfolding few setFrom
-few-more t k S u c w =
-    let n : k + suc (length (w .got)) ≡ k + 1 + length (w .got) = omega arith in
-    let m : S + (2 ^ u + setFrom (w .got)) ≡ S + 2 ^ u + setFrom (w .got) = omega arith in
-    ap₂ (λ (x y : ℕ). record { got = onlyIf (leb x t) y; trials = c }) n m
-
--- one more than t: enough
-few-enough : (t S u c : ℕ) → few t t S (record { got = u ∷ []; trials = c }) ≡ record { got = none; trials = c }
-unfolding few
-few-enough t S u c = ap (λ (b : Bool). record { got = onlyIf b (S + setFrom (u ∷ [])); trials = c }) (lt-leb (t + 1) t (omega arith))
-
-few-none : (t k S : ℕ) → k ≤ t → few t k S (record { got = []; trials = 0 }) ≡ record { got = some S; trials = 0 }
-unfolding few setFrom
-few-none t k S h =
-    let n : k + 0 ≡ k = omega arith in
-    let m : S + 0 ≡ S = omega arith in
-    ap₂ (λ (x y : ℕ). record { got = onlyIf (leb x t) y; trials = 0 }) n m ∙ ap (λ (b : Bool). record { got = onlyIf b S; trials = 0 }) (le-leb k t h)
-
-pub few-start : (t : ℕ) (w : Walk (List ℕ)) → tooFew t w ≡ few t 0 0 w
-unfolding tooFew few
-few-start t w =
-    let n : length (w .got) ≡ 0 + length (w .got) = omega arith in
-    let m : setFrom (w .got) ≡ 0 + setFrom (w .got) = omega arith in
-    ap₂ (λ (x y : ℕ). record { got = onlyIf (leb x t) y; trials = w .trials }) n m
-
-no-more : {B : Type 0} (f : ℕ → Search B) (us : List ℕ) → tally f us 0 ≡ record { got = []; trials = 0 }
-unfolding tally
-no-more f [] = refl
-no-more f (u ∷ us) = refl
 
 pub tally-scan : {B : Type 0} (t al fi : ℕ) (sub : ℕ → Search B) (us : List ℕ) (k S : ℕ) → k ≤ t
     → few t k S (tally (λ u. trial (has al u) (has fi u) (sub u)) us (suc (t - k))) ≡ scan (counting t sub) fi (keep (has al) us) (k, S)

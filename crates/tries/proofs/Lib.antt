@@ -1,5 +1,4 @@
 -- What every search's proof uses.
-pub mod Cuts
 pub mod Scans
 pub mod Hunts
 pub mod Lines
@@ -7,6 +6,7 @@ pub mod Sweeps
 pub mod Tries
 pub mod Turns
 pub mod Showing
-pub mod Settled
+pub mod Agreeing
 pub mod Alike
 pub mod Good
+pub mod Choosing

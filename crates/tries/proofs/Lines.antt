@@ -25,11 +25,11 @@ use Rattle.cases.specs.declared.Filled.{Filled}
 use Rattle.cases.specs.Case.{mostSteps}
 use Rattle.boards.specs.Board.{allowedOn, readyOn, fitsOn}
 use Rattle.boards.specs.Arena.{Done, by, putOn, boardArena}
-use Rattle.tries.specs.Outcomes.{named, adviceOn}
-use Rattle.tries.specs.Trying.{stepOn, OneReady, asked, InLine}
-use Rattle.tries.proofs.Cuts.{plus-plus, plus-zero}
+use Rattle.tries.specs.Trying.{stepOn, Alone, asked, InLine}
+use Rattle.games.proofs.Cuts.{plus-plus, plus-zero}
 use Rattle.tries.proofs.Scans.{Step, stop, go, Hunt, turn, judged, scan, scan-cong, Inside, Going, going-start}
-use Rattle.tries.proofs.Hunts.{trial, told-once, first, seek-scan, oneMore, counting, few-start, tally-scan}
+use Rattle.games.proofs.Few.{few-start}
+use Rattle.tries.proofs.Hunts.{trial, told-once, first, seek-scan, oneMore, counting, tally-scan}
 
 -- ---- the same scan, told otherwise
 
@@ -65,13 +65,13 @@ module _ {A B R Q S : Type 0} (h : Hunt A R S) (k : Hunt B Q S) (tell : R → Q)
 
 -- ---- hunts that judge a placing by a verdict: nothing got means that the position is good
 
--- name the first person whose placing is good
-abbrev pub nameFirst : ℕ → Option ℕ → Unit {0} → Step (Option ℕ) (Unit {0})
-nameFirst u none s = stop (some u)
-nameFirst u (some x) s = go tt
+-- name the first person whose placing is good, with the move
+abbrev pub nameFirst : {M : Type 0} → (ℕ → M) → ℕ → Option ℕ → Unit {0} → Step (Option (ℕ × M)) (Unit {0})
+nameFirst m u none s = stop (some (u, m u))
+nameFirst m u (some x) s = go tt
 
-abbrev pub naming : (ℕ → Search ℕ) → Hunt (Option ℕ) (Option ℕ) (Unit {0})
-naming sub = record { sub = sub; step = nameFirst; last = λ s. none }
+abbrev pub naming : {M : Type 0} → (ℕ → M) → (ℕ → Search ℕ) → Hunt (Option ℕ) (Option (ℕ × M)) (Unit {0})
+naming m sub = record { sub = sub; step = nameFirst m; last = λ s. none }
 
 -- A beats the desk where no placing is good
 abbrev pub holdFirst : Option ℕ → Unit {0} → Step (Option ℕ) (Unit {0})
@@ -89,12 +89,12 @@ countGood t u (some x) s = go s
 abbrev pub showing : ℕ → (ℕ → Search ℕ) → Hunt (Option ℕ) (Option ℕ) (ℕ × ℕ)
 showing t sub = record { sub = sub; step = countGood t; last = λ s. some (s .1) }
 
-naming-same : (m : ℕ → Done) (sub : ℕ → Search ℕ) → Same (first (λ u. ifSome (u, m u) (unbeaten (sub u)))) (naming sub) named
+naming-same : (m : ℕ → Done) (sub : ℕ → Search ℕ) → Same (first (λ u. ifSome (u, m u) (unbeaten (sub u)))) (naming m sub) (λ r. r)
 unfolding ifSome ifNone
 naming-same m sub = record { trials = λ u. refl; step = λ u s. at u (sub u .got) s; last = λ s. refl }
   where
     at : (u : ℕ) (o : Option ℕ) (s : Unit {0})
-        → toldStep named (first (λ v. ifSome (v, m v) (unbeaten (sub v))) .step u (having (u, m u) (lacking (tt {0}) o)) s) ≡ nameFirst u o s
+        → toldStep (λ r. r) (first (λ v. ifSome (v, m v) (unbeaten (sub v))) .step u (having (u, m u) (lacking (tt {0}) o)) s) ≡ nameFirst m u o s
     at u none s = refl
     at u (some x) s = refl
 
@@ -219,12 +219,12 @@ unfolding stepOn
 step-found b p r s q e = e ∙ ap (λ (x : ℕ). valueOr 32 (lowest 32 x)) q
 
 -- a person has one move at most, at the step that is ready
-module _ (b : List ℕ) (n : ℕ) (one : OneReady b) (p : Filled) (u : ℕ) where
+module _ (b : List ℕ) (n : ℕ) (p : Filled) (one : Alone b p) (u : ℕ) where
   abbrev test : ℕ → Bool
   test s = has (readyOn b p) s && has (allowedOn b s) u
 
   others : (s : ℕ) → s < mostSteps → (s ≡ stepOn b p → ⊥) → test s ≡ false
-  others s l d = ap (λ (x : Bool). x && has (allowedOn b s) u) (false-by (has (readyOn b p) s) (λ e. d (one p s l e)))
+  others s l d = ap (λ (x : Bool). x && has (allowedOn b s) u) (false-by (has (readyOn b p) s) (λ e. d (one s l e)))
     where
       false-by : (x : Bool) → (x ≡ true → ⊥) → x ≡ false
       false-by true f = absurd (f refl)
@@ -248,7 +248,7 @@ module _ (b : List ℕ) (n : ℕ) (one : OneReady b) (p : Filled) (u : ℕ) wher
           ∙ ap (λ (x : Bool). consIf x (by u (stepOn b p)) [])
           (sym (ap (λ (x : ℕ). has x u) (ap (λ (x : Bool). pick x (allowedOn b (stepOn b p)) 0) (le-ltb (stepOn b p) mostSteps (omega arith))) ∙ has-empty u))
 
-module _ (b : List ℕ) (n A : ℕ) (p : Filled) (T F : ℕ) (one : OneReady b) (line : InLine b n A p T F) (h : n ≤ width) where
+module _ (b : List ℕ) (n A : ℕ) (p : Filled) (T F : ℕ) (one : Alone b p) (line : InLine b n A p T F) (h : n ≤ width) where
   abbrev G : Arena
   G = boardArena b n
 
@@ -313,7 +313,7 @@ module _ (b : List ℕ) (n A : ℕ) (p : Filled) (T F : ℕ) (one : OneReady b) 
   unfolding desk present tries
   desk-line judge =
       seek-cong (tries G judge p) (λ u. trial (has al u) (has fi u) (judge (put u))) (keep (λ u. not (has A u)) (upto n))
-      (λ u m. ap (seek (λ m. try judge (G .after p m))) (one-move b n one p u) ∙ told-once (λ m w. w) judge (G .after p) (has al u) (has fi u) (put u) (mv u) refl refl refl)
+      (λ u m. ap (seek (λ m. try judge (G .after p m))) (one-move b n p one u) ∙ told-once (λ m w. w) judge (G .after p) (has al u) (has fi u) (put u) (mv u) refl refl refl)
       ∙ seek-scan al fi (λ u. judge (put u)) (keep (λ u. not (has A u)) (upto n))
       ∙ line-scan (first (λ u. judge (put u))) tt
 
@@ -330,21 +330,20 @@ module _ (b : List ℕ) (n A : ℕ) (p : Filled) (T F : ℕ) (one : OneReady b) 
       ∙ scan-told (first (λ u. unbeaten (next (put u)))) (beating A (λ u. next (put u))) (lacking A)
       (beating-same A (λ u. next (put u))) F (members width T) tt
 
-  pub advice-line : (t k : ℕ) → adviceOn b n t (suc k) A p ≡ scan (naming (λ u. dynamic G t k (put u))) F (members width T) tt
+  pub advice-line : (t k : ℕ) → advice G t (suc k) A p ≡ scan (naming mv (λ u. dynamic G t k (put u))) F (members width T) tt
   unfolding advice present ifSome plus
   advice-line t k =
-      ap (λ w. record { got = named (w .got); trials = w .trials })
-      (seek-cong (λ u. seek (λ m. ifSome (u, m) (try (λ q. unbeaten (dynamic G t k q)) (G .after p m))) (G .moves p u))
+      seek-cong (λ u. seek (λ m. ifSome (u, m) (try (λ q. unbeaten (dynamic G t k q)) (G .after p m))) (G .moves p u))
       (λ u. trial (has al u) (has fi u) (ifSome (u, mv u) (unbeaten (dynamic G t k (put u))))) (keep (λ u. not (has A u)) (upto n))
-      (λ u m. ap (seek (λ m. ifSome (u, m) (try (λ q. unbeaten (dynamic G t k q)) (G .after p m)))) (one-move b n one p u)
+      (λ u m. ap (seek (λ m. ifSome (u, m) (try (λ q. unbeaten (dynamic G t k q)) (G .after p m)))) (one-move b n p one u)
       ∙ told-once (λ m w. ifSome (u, m) w) (λ q. unbeaten (dynamic G t k q)) (G .after p) (has al u) (has fi u) (put u) (mv u) refl refl refl)
       ∙ seek-scan al fi (λ u. ifSome (u, mv u) (unbeaten (dynamic G t k (put u)))) (keep (λ u. not (has A u)) (upto n))
-      ∙ line-scan (first (λ u. ifSome (u, mv u) (unbeaten (dynamic G t k (put u))))) tt)
-      ∙ scan-told (first (λ u. ifSome (u, mv u) (unbeaten (dynamic G t k (put u))))) (naming (λ u. dynamic G t k (put u))) named
+      ∙ line-scan (first (λ u. ifSome (u, mv u) (unbeaten (dynamic G t k (put u))))) tt
+      ∙ scan-told (first (λ u. ifSome (u, mv u) (unbeaten (dynamic G t k (put u))))) (naming mv (λ u. dynamic G t k (put u))) (λ r. r)
       (naming-same mv (λ u. dynamic G t k (put u))) F (members width T) tt
 
 -- everybody is present in the dynamic walk
-module _ (b : List ℕ) (n : ℕ) (p : Filled) (T F : ℕ) (one : OneReady b) (line : InLine b n 0 p T F) (h : n ≤ width) where
+module _ (b : List ℕ) (n : ℕ) (p : Filled) (T F : ℕ) (one : Alone b p) (line : InLine b n 0 p T F) (h : n ≤ width) where
   everybody-present : keep (λ u. not (has 0 u)) (upto n) ≡ upto n
   everybody-present = keep-everything (λ u. not (has 0 u)) (upto n) (λ u m. ap not (has-empty u))
 
@@ -353,7 +352,7 @@ module _ (b : List ℕ) (n : ℕ) (p : Filled) (T F : ℕ) (one : OneReady b) (l
   dynamic-line t k =
       ap (tooFew t)
       (tally-cong (tries (boardArena b n) (λ q. unbeaten (dynamic (boardArena b n) t k q)) p) (λ u. trial (has (asked b p) u) (has (fitsOn b p (stepOn b p)) u) (sub u)) (upto n) (suc t)
-      (λ u m. ap (seek (λ m. try (λ q. unbeaten (dynamic (boardArena b n) t k q)) (boardArena b n .after p m))) (one-move b n one p u)
+      (λ u m. ap (seek (λ m. try (λ q. unbeaten (dynamic (boardArena b n) t k q)) (boardArena b n .after p m))) (one-move b n p one u)
       ∙ told-once (λ m w. w) (λ q. unbeaten (dynamic (boardArena b n) t k q)) (boardArena b n .after p) (has (asked b p) u) (has (fitsOn b p (stepOn b p)) u) (putOn p u (stepOn b p)) (by u (stepOn b p)) refl refl refl))
       ∙ ap (λ (w : ℕ). tooFew t (tally (λ u. trial (has (asked b p) u) (has (fitsOn b p (stepOn b p)) u) (sub u)) (upto n) (suc w))) (sym (sub-zero t))
       ∙ few-start t _

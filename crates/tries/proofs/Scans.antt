@@ -20,7 +20,7 @@ use Rattle.sets.proofs.Members.{members-in, members-length, lowest-nobody, lowe
 use Rattle.games.specs.Walks.{Walk, plus}
 use Rattle.games.specs.Limit.{stopped, whole, cut}
 use Rattle.tries.specs.Trying.{trialsTo, tried}
-use Rattle.tries.proofs.Cuts.{plus-plus, plus-trials, plus-zero, Finished, finished, over, ends, stops, only-some, only-none}
+use Rattle.games.proofs.Cuts.{plus-plus, plus-trials, plus-zero, Finished, finished, over, ends, stops, only-some, only-none}
 
 -- after a person was placed and judged: stop with an answer, or go on
 pub data Step (R S : Type 0) : Type 0 where

@@ -11,7 +11,7 @@ use Rattle.sets.proofs.Lists.{mem-middle}
 use Rattle.sets.proofs.Listed.{sets-in, sets-first, sets-on, sets-over, sets-apart}
 use Rattle.games.specs.Walks.{Walk, Search, plus, orElse, seek}
 use Rattle.games.specs.Limit.{stopped, whole, cut}
-use Rattle.tries.proofs.Cuts.{plus-plus, plus-zero, plus-trials, Finished, finished, over, ends, stops}
+use Rattle.games.proofs.Cuts.{plus-plus, plus-zero, plus-trials, Finished, finished, over, ends, stops}
 
 module _ {B : Type 0} where
   -- the first of a list gets something, or nothing

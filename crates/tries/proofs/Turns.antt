@@ -22,11 +22,10 @@ use Rattle.cases.specs.Filled.{placedAt}
 use Rattle.cases.specs.declared.Person.{Person}
 use Rattle.cases.specs.declared.Step.{Step}
 use Rattle.cases.specs.declared.Filled.{Filled}
-use Rattle.boards.specs.Arena.{putOn, boardArena}
-use Rattle.tries.specs.Outcomes.{beatsOn, passOn, adviceOn}
-use Rattle.tries.specs.Trying.{stepOn, InLine}
-use Rattle.tries.specs.WellLaid.{WellLaid}
-use Rattle.tries.proofs.Cuts.{plus-zero, finished, over, ends}
+use Rattle.boards.specs.Arena.{Done, by, putOn, boardArena}
+use Rattle.tries.specs.Outcomes.{beatsOn, passOn}
+use Rattle.tries.specs.Trying.{stepOn, Alone, InLine}
+use Rattle.games.proofs.Cuts.{plus-zero, finished, over, ends}
 use Rattle.tries.proofs.Scans.{Hunt, scan, Going, going-start}
 use Rattle.tries.proofs.Hunts.{first}
 use Rattle.tries.proofs.Lines.{naming, beating, showing, fit-inside, plan-line, turn-line, advice-line, dynamic-line}
@@ -56,8 +55,8 @@ module _ (b : List ℕ) (n : ℕ) where
   abbrev pub planHunt : ℕ → ℕ → Filled → Hunt (Option Filled) (Option Filled) (Unit {0})
   planHunt A k p = first (λ u. plan (boardArena b n) A k (putOn p u (stepOn b p)))
 
-  abbrev pub adviceHunt : ℕ → ℕ → Filled → Hunt (Option ℕ) (Option ℕ) (Unit {0})
-  adviceHunt t k p = naming (λ u. dynamic (boardArena b n) t k (putOn p u (stepOn b p)))
+  abbrev pub adviceHunt : ℕ → ℕ → Filled → Hunt (Option ℕ) (Option (ℕ × Done)) (Unit {0})
+  adviceHunt t k p = naming (λ u. by u (stepOn b p)) (λ u. dynamic (boardArena b n) t k (putOn p u (stepOn b p)))
 
   abbrev pub dynamicHunt : ℕ → ℕ → Filled → Hunt (Option ℕ) (Option ℕ) (ℕ × ℕ)
   dynamicHunt t k p = showing t (λ u. dynamic (boardArena b n) t k (putOn p u (stepOn b p)))
@@ -88,6 +87,10 @@ module _ (G : Arena) (k : ℕ) (p : G .Pos) (z : k ≡ 0) where
   unfolding decremental
   decremental-full t c = ap (λ (j : ℕ). decremental G t j c p) z
 
+  pub advice-full : (t A : ℕ) → advice G t k A p ≡ record { got = none; trials = 0 }
+  unfolding advice
+  advice-full t A = ap (λ (j : ℕ). advice G t j A p) z
+
   pub oneShot-full : (t : ℕ) → oneShot G t k p ≡ record { got = none; trials = 0 }
   unfolding oneShot
   oneShot-full t = ap (λ (j : ℕ). oneShot G t j p) z
@@ -99,46 +102,36 @@ module _ (G : Arena) (k : ℕ) (p : G .Pos) (z : k ≡ 0) where
       ap (λ (j : ℕ). static G t j p) z
       ∙ seek-nothing (λ A. ifNone A (plan G A 0 p)) (sets (G .people) t 0) (λ A. refl)
 
-pub advice-full : (b : List ℕ) (n t k A : ℕ) (p : Filled) → k ≡ 0 → adviceOn b n t k A p ≡ record { got = none; trials = 0 }
-unfolding advice
-advice-full b n t k A p z = ap (λ (j : ℕ). adviceOn b n t j A p) z
-
 -- ---- where a loop starts: k steps are left, at least one
 
-module _ (b : List ℕ) (n k : ℕ) (p : Filled) (limit T F : ℕ) (some-left : k ≡ 0 → ⊥) (h : n ≤ width) (laid : WellLaid b) where
+module _ (b : List ℕ) (n k : ℕ) (p : Filled) (limit T F : ℕ) (some-left : k ≡ 0 → ⊥) (h : n ≤ width) (one : Alone b p) where
   one-less : (j : ℕ) → (j ≡ 0 → ⊥) → j ≡ suc (j - 1)
   one-less j f = omega arith
 
   pub plan-going : (A : ℕ) → InLine b n A p T F → Going (planHunt b n A (k - 1) p) (plan (boardArena b n) A k p) limit T F 0 tt
   plan-going A l =
-      going-start _ _ limit T F tt (fit-inside b n A p T F (laid .alone) l h)
-      (ap (λ (j : ℕ). plan (boardArena b n) A j p) (one-less k some-left) ∙ plan-line b n A p T F (laid .alone) l h (k - 1))
+      going-start _ _ limit T F tt (fit-inside b n A p T F one l h)
+      (ap (λ (j : ℕ). plan (boardArena b n) A j p) (one-less k some-left) ∙ plan-line b n A p T F one l h (k - 1))
 
   pub dynamic-going : (t : ℕ) → InLine b n 0 p T F → Going (dynamicHunt b n t (k - 1) p) (dynamic (boardArena b n) t k p) limit T F 0 (0, 0)
   dynamic-going t l =
-      going-start _ _ limit T F (0, 0) (fit-inside b n 0 p T F (laid .alone) l h)
-      (ap (λ (j : ℕ). dynamic (boardArena b n) t j p) (one-less k some-left) ∙ dynamic-line b n p T F (laid .alone) l h t (k - 1))
+      going-start _ _ limit T F (0, 0) (fit-inside b n 0 p T F one l h)
+      (ap (λ (j : ℕ). dynamic (boardArena b n) t j p) (one-less k some-left) ∙ dynamic-line b n p T F one l h t (k - 1))
 
--- the loop of advice no longer knows who is absent: it goes by the line that it starts with
-pub advice-total : (b : List ℕ) (n k : ℕ) (p : Filled) (T F : ℕ) → (k ≡ 0 → ⊥) → n ≤ width → WellLaid b → (t A : ℕ) → InLine b n A p T F
-    → scan (adviceHunt b n t (k - 1) p) F (members width T) tt ≡ adviceOn b n t k A p
-advice-total b n k p T F f h laid t A l =
-    let e : suc (k - 1) ≡ k = omega arith in
-    sym (advice-line b n A p T F (laid .alone) l h t (k - 1)) ∙ ap (λ (j : ℕ). adviceOn b n t j A p) e
+  pub advice-going : (t A : ℕ) → InLine b n A p T F → Going (adviceHunt b n t (k - 1) p) (advice (boardArena b n) t k A p) limit T F 0 tt
+  advice-going t A l =
+      going-start _ _ limit T F tt (fit-inside b n A p T F one l h)
+      (ap (λ (j : ℕ). advice (boardArena b n) t j A p) (one-less k some-left) ∙ advice-line b n A p T F one l h t (k - 1))
 
-pub line-going : {A R S : Type 0} (h : Hunt A R S) (b : List ℕ) (n Z limit T F : ℕ) (p : Filled) (s : S) → n ≤ width → WellLaid b → InLine b n Z p T F
-    → Going h (scan h F (members width T) s) limit T F 0 s
-line-going h b n Z limit T F p s k laid l = going-start h _ limit T F s (fit-inside b n Z p T F (laid .alone) l k) refl
-
-pub desk-going : (b : List ℕ) (n k : ℕ) (p : Filled) (limit T F : ℕ) → n ≤ width → WellLaid b → (t A : ℕ) → InLine b n A p T F
+pub desk-going : (b : List ℕ) (n k : ℕ) (p : Filled) (limit T F : ℕ) → n ≤ width → Alone b p → (t A : ℕ) → InLine b n A p T F
     → Going (deskHunt b n t A k p) (beatsOn b n t k p A) limit T F 0 tt
 unfolding beatsOn
-desk-going b n k p limit T F h laid t A l = going-start _ _ limit T F tt (fit-inside b n A p T F (laid .alone) l h) (turn-line b n A p T F (laid .alone) l h (decremental (boardArena b n) t k A))
+desk-going b n k p limit T F h one t A l = going-start _ _ limit T F tt (fit-inside b n A p T F one l h) (turn-line b n A p T F one l h (decremental (boardArena b n) t k A))
 
-pub pass-going : (b : List ℕ) (n k : ℕ) (p : Filled) (limit T F : ℕ) → n ≤ width → WellLaid b → (t : ℕ) → InLine b n 0 p T F
+pub pass-going : (b : List ℕ) (n k : ℕ) (p : Filled) (limit T F : ℕ) → n ≤ width → Alone b p → (t : ℕ) → InLine b n 0 p T F
     → Going (passHunt b n t k p) (passOn b n t k p) limit T F 0 tt
 unfolding passOn
-pass-going b n k p limit T F h laid t l = going-start _ _ limit T F tt (fit-inside b n 0 p T F (laid .alone) l h) (turn-line b n 0 p T F (laid .alone) l h (oneShot (boardArena b n) t k))
+pass-going b n k p limit T F h one t l = going-start _ _ limit T F tt (fit-inside b n 0 p T F one l h) (turn-line b n 0 p T F one l h (oneShot (boardArena b n) t k))
 
 -- a turn of the away side, and the static walk, go over sets
 pub away-going : (b : List ℕ) (n t k c limit : ℕ) (p : Filled) → (k ≡ 0 → ⊥) → c < 2 ^ n → size n c ≤ t

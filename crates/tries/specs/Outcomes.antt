@@ -1,12 +1,14 @@
 -- What the searches' answers say, as the answers of `cut`; and the walks of `games` on a board that they are compared with.
+use mathlib.Core.Path.{_≡_}
 use mathlib.Core.Option.{Option, none, some}
 use mathlib.Core.List.{List}
 use Prim.Native.Nat.{ℕ}
 use Rattle.sets.specs.Stored.{number}
-use Rattle.games.specs.Walks.{Search, ifNone, unbeaten, desk, decremental, oneShot, advice}
-use Rattle.games.specs.Limit.{Answer, stopped, whole}
+use Rattle.games.specs.Walks.{Walk, Search, ifNone, unbeaten, desk, plan, decremental, oneShot}
+use Rattle.games.specs.Limit.{Answer, stopped, whole, cut}
 use Rattle.cases.specs.declared.Filled.{Filled}
-use Rattle.boards.specs.Arena.{Done, boardArena}
+use Rattle.boards.specs.Arena.{Done, by, boardArena}
+use Rattle.boards.specs.Looked.{Agree}
 use Rattle.tries.specs.declared.PlanEnd.{PlanEnd}
 use Rattle.tries.specs.declared.PlanEnd.the-variants as planEnd
 use Rattle.tries.specs.declared.Planned.{Planned}
@@ -39,10 +41,10 @@ verdictOutcome l verdict.Limit = stopped l
 verdictOutcome l (verdict.Yes c) = nothing c
 verdictOutcome l (verdict.No s c) = found (number s) c
 
-abbrev pub advisedOutcome : ℕ → Advised → Answer (Option ℕ)
+abbrev pub advisedOutcome : ℕ → Advised → Answer (Option (ℕ × Done))
 advisedOutcome l advised.Limit = stopped l
 advisedOutcome l (advised.Nobody c) = nothing c
-advisedOutcome l (advised.Person v c) = found (v .0) c
+advisedOutcome l (advised.Move s v c) = found (v .0, by (v .0) (s .0)) c
 
 -- a turn of the desk with A away: A is got exactly if it beats the desk
 abbrev pub turnOutcome : ℕ → ℕ → Turn → Answer (Option ℕ)
@@ -51,11 +53,6 @@ turnOutcome l A (turn.Beaten c) = found A c
 turnOutcome l A (turn.Holds c) = nothing c
 
 -- ---- Walks on a board b for n people
-
--- of a person and a move, the person
-abbrev pub named : Option (ℕ × Done) → Option ℕ
-named none = none
-named (some a) = some (a .0)
 
 module _ (b : List ℕ) (n t : ℕ) where
   -- a turn of the desk in the decremental game with A away and k steps left after it: A where it beats the desk
@@ -66,6 +63,13 @@ module _ (b : List ℕ) (n t : ℕ) where
   unfoldable pub passOn : ℕ → Filled → Search ℕ
   passOn k p = ifNone 0 (desk (boardArena b n) (λ q. unbeaten (oneShot (boardArena b n) t k q)) 0 p)
 
-  -- advice names a person and a move; where one step is ready, the person says it all
-  abbrev pub adviceOn : ℕ → ℕ → Filled → Search ℕ
-  adviceOn k A p = let w = advice (boardArena b n) t k A p in record { got = named (w .got); trials = w .trials }
+-- ---- What was looked at
+
+-- an answer tells a walk: from p, and from every position that agrees with p at the steps looked at
+abbrev pub Tells : {B : Type 0} → (Filled → Walk B) → ℕ → Filled → ℕ → Answer B → Type 0
+Tells walk l p looked a = (q : Filled) → Agree looked p q → a ≡ cut l (walk q)
+
+-- a search for a plan tells its walk from p; from the others that agree, the same but for who fills the steps that were not looked at
+pub record PlanTold (b : List ℕ) (n A k l : ℕ) (p : Filled) (r : Planned) : Type 0 where
+  pub own : planOutcome l r ≡ cut l (plan (boardArena b n) A k p)
+  pub others : (q : Filled) → Agree (r .looked) p q → (e : Filled) × (planEnded l e (r .end) ≡ cut l (plan (boardArena b n) A k q))

@@ -1,16 +1,18 @@
 -- A line of people at a position, and the next of them worth a try.
 use mathlib.Core.Path.{_≡_}
-use mathlib.Core.Bool.{true}
+use mathlib.Core.Bool.{Bool, true, not}
 use mathlib.Core.Option.{Option, none, some}
 use mathlib.Core.List.{List}
 use Prim.Native.Nat.{ℕ, suc, _+_, _<_}
-use lib.Dec.{leb, ltb}
+use lib.Dec.{leb, ltb, eqb}
 use Rattle.sets.specs.Lists.{onlyIf, pick, valueOr}
-use Rattle.sets.specs.Sets.{has, common, difference, everybody, size, sizeBefore, lowest}
-use Rattle.sets.specs.Stored.{width}
+use Rattle.sets.specs.Sets.{has, without, common, difference, everybody, size, sizeBefore, lowest}
+use Rattle.sets.specs.Stored.{width, number}
 use Rattle.cases.specs.declared.Filled.{Filled}
 use Rattle.cases.specs.Case.{mostSteps}
 use Rattle.boards.specs.Board.{allowedOn, readyOn, fitsOn}
+use Rattle.boards.specs.Looked.{Agree}
+use Rattle.tries.specs.declared.Lined.{Lined}
 use Rattle.tries.specs.declared.Try.{Try}
 use Rattle.tries.specs.declared.Try.the-variants as try
 
@@ -19,9 +21,13 @@ module _ (b : List ℕ) where
   unfoldable pub stepOn : Filled → ℕ
   stepOn p = valueOr 32 (lowest 32 (readyOn b p))
 
-  -- wherever one comes to, no other step is ready
-  abbrev pub OneReady : Type 0
-  OneReady = (p : Filled) (s : ℕ) → s < mostSteps → has (readyOn b p) s ≡ true → s ≡ stepOn p
+  -- some step is ready besides the lowest
+  unfoldable pub severalOn : Filled → Bool
+  severalOn p = not (eqb (without 32 (readyOn b p) (stepOn p)) 0)
+
+  -- no other step is ready
+  abbrev pub Alone : Filled → Type 0
+  Alone p = (s : ℕ) → s < mostSteps → has (readyOn b p) s ≡ true → s ≡ stepOn p
 
   -- those who may do it, nobody where none is
   abbrev pub asked : Filled → ℕ
@@ -31,6 +37,10 @@ module _ (b : List ℕ) where
 pub record InLine (b : List ℕ) (n A : ℕ) (p : Filled) (T F : ℕ) : Type 0 where
   pub tried : T ≡ common width (difference width (asked b p) A) (everybody width n)
   pub fit : F ≡ common width T (fitsOn b p (stepOn b p))
+
+-- the line at p, also from every position that agrees with p at the steps looked at
+abbrev pub LinedUp : List ℕ → ℕ → ℕ → Filled → Lined → Type 0
+LinedUp b n A p r = (q : Filled) → Agree (r .looked) p q → InLine b n A q (number (r .line .tried)) (number (r .line .fit))
 
 -- the trials until the first of F is tried, who is the last of them; where F is empty, until all of T are
 abbrev pub trialsTo : ℕ → Option ℕ → ℕ

@@ -5,12 +5,13 @@ use mathlib.Core.List.{List, [], _∷_, _++_, append-assoc, map, map-append}
 use mathlib.Core.Logic.{⊎-elim}
 use native.Mathlib.Nat.{mul-suc, mul-zero, mul-le-mul-left, eq-or-lt-of-le}
 use native.Mathlib.Numerals.{add-one}
+use native.Mathlib.Decide.{decLt, ℕ-discrete}
 use native.Mathlib.Omega.{arith}
-use lib.ListN.{length, getD, take, drop, set, length-append, length-set, List·getD-append}
-use lib.Seq.{drop-at, drop-drop, take-suc-set, take-all, getD-append-add, getD-at, sets, sets-eq, length-sets, take-at, take-add, length-take-le}
+use lib.ListN.{length, getD, take, drop, set, replicate, length-append, length-set, length-replicate, getD-replicate, List·getD-append, List·getD-eq-default}
+use lib.Seq.{drop-at, drop-drop, take-suc-set, take-all, getD-append-add, getD-at, getD-set-same, getD-set-other, ext-getD, sets, sets-eq, length-sets, take-at, take-add, length-take-le}
 use Rattle.sets.specs.Lists.{upto, from}
 use Rattle.sets.proofs.Lists.{upto-snoc}
-use Rattle.words.specs.Part.{table, run, splice, Filled, Written}
+use Rattle.words.specs.Part.{table, run, splice, Filled, Begun, Written}
 
 upto-zero : upto 0 ≡ []
 unfolding upto from
@@ -99,6 +100,42 @@ module _ {A : Type 0} (f : ℕ → A) (n : ℕ) where
   fill-end {i} {l} h b =
       let q : i ≡ n = omega arith in
       sym (take-all n l (omega arith)) ∙ rw q at (h .front)
+
+-- A loop that fills an array and may stop early: its start, one entry more, its end, where no entry is left that is not z.
+module _ {A : Type 0} (f : ℕ → A) (z : A) (n : ℕ) where
+  pub begin-start : (l : List A) → l ≡ replicate n z → Begun f z n 0 l
+  begin-start l e =
+      record {
+        upto = omega arith;
+        long = ap length e ∙ length-replicate n z;
+        front = λ j h. absurd (omega arith);
+        rest = λ j h. ap (λ (x : List A). getD x j z) e ∙ empty j (decLt j n);
+      }
+    where
+      empty : (j : ℕ) → Dec (j < n) → getD (replicate n z) j z ≡ z
+      empty j (yes h) = getD-replicate n j z z h
+      empty j (no h) = List·getD-eq-default (replicate n z) z (omega (arith, length-replicate n z))
+
+  pub begin-step : {i : ℕ} {l : List A} {v : A} → Begun f z n i l → i < n → v ≡ f i → Begun f z n (i + 1) (set l i v)
+  begin-step {i} {l} {v} h b e =
+      record {
+        upto = omega arith;
+        long = length-set l i v ∙ h .long;
+        front = λ j k. at j k (ℕ-discrete j i);
+        rest = λ j k. getD-set-other l i j v z (λ q. omega arith) ∙ h .rest j (omega arith);
+      }
+    where
+      at : (j : ℕ) → j < i + 1 → Dec (j ≡ i) → getD (set l i v) j z ≡ f j
+      at j k (yes q) = ap (λ (x : ℕ). getD (set l i v) x z) q ∙ getD-set-same l i v z (omega (arith, h .long)) ∙ e ∙ ap f (sym q)
+      at j k (no q) = getD-set-other l i j v z q ∙ h .front j (omega arith)
+
+  pub begin-end : {i : ℕ} {l : List A} → Begun f z n i l → ((j : ℕ) → i ≤ j → j < n → f j ≡ z) → l ≡ table f n
+  begin-end {i} {l} h over =
+      ext-getD z l (table f n) (h .long ∙ sym (length-table f n)) (λ j b. let k : j < n = omega (arith, h .long) in at j k (decLt j i) ∙ sym (getD-table f n j z k))
+    where
+      at : (j : ℕ) → j < n → Dec (j < i) → getD l j z ≡ f j
+      at j k (yes q) = h .front j q
+      at j k (no q) = h .rest j (omega arith) ∙ sym (over j (omega arith) k)
 
 -- A loop that writes entries: its start, one entry more, its end.
 module _ {A : Type 0} (e : ℕ → List A) (w n : ℕ) where

@@ -14,13 +14,13 @@ at-requires : tie.Need-at-requires
 at-requires c κs = search needs
 
 returns : tie.Need-returns
-returns c = column-row _ _ _ _ _ (c .before .before .if1 .taken) (c .at .ensures)
+returns c = column-row _ _ _ _ (c .before .before .if1 .taken) (c .at .ensures)
 
 gathered-requires : tie.Need-gathered-requires
 gathered-requires c κs = search needs
 
 returns-2 : tie.Need-returns-2
-returns-2 c = column-gathered _ _ _ _ _ (omega (arith, c .before .if1 .left)) (c .gathered .ensures)
+returns-2 c = column-gathered _ _ _ _ (omega (arith, c .before .if1 .left)) (c .gathered .ensures)
 
 pub column-spec : {M : Type 1} → statement M
 column-spec = tie.close (tie.spec mul-at add-at at-requires returns gathered-requires returns-2)

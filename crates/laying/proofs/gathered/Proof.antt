@@ -1,31 +1,31 @@
 use mathlib.Core.Path.{ap, _∙_}
-use mathlib.Core.Bool.{_&&_}
 use Prim.Native.Nat.{_-_}
-use lib.Dec.{ltb}
 use Rattle.sets.specs.Sets.{has}
 use Rattle.sets.specs.Stored.{width, number, setAt}
-use Rattle.boards.specs.Board.{rowPlace}
 use Rattle.sets.proofs.Records.{number-none}
-use Rattle.laying.specs.Parts.{Collected}
-use Rattle.laying.proofs.Collecting.{has-in}
-use Rattle.laying.specs.Parts.{gatheredIn}
-use Rattle.laying.proofs.Rows.{among-start, among-step, among-end}
+use Rattle.cases.specs.Case.{mostPeople}
+use Rattle.boards.specs.Board.{rowPlace}
+use Rattle.laying.specs.Parts.{gatheredIn, Collected}
+use Rattle.laying.proofs.Collecting.{has-in, collect-start, collect-step, collect-end}
 use native.Mathlib.Omega.{arith}
 use borrow.Author.Needs.{needs}
 use Rattle.laying.proofs.gathered.Statement.{statement}
 use Rattle.laying.proofs.gathered.Tie as tie
 
 abbrev Inv-loop : tie.InvT-loop
-Inv-loop board people k v set₀ u₀ set u = Collected (λ j. ltb j people && (has (setAt board (rowPlace k j)) v)) width u (number set)
+Inv-loop board k v set₀ u₀ set u = Collected (λ j. has (setAt board (rowPlace k j)) v) width u (number set)
 
 abbrev μ-loop : tie.MeasureT-loop
-μ-loop board people k v set₀ u₀ set u = people - u
+μ-loop board k v set₀ u₀ set u = mostPeople - u
 
 none-requires : tie.Need-none-requires Inv-loop μ-loop
 none-requires c κs = search needs
 
 loop-holds : tie.Need-loop-holds Inv-loop μ-loop
-loop-holds c = among-start _ width _ _ (ap number (c .none .ensures) ∙ number-none)
+loop-holds c = collect-start _ width _ (ap number (c .none .ensures) ∙ number-none)
+
+cast-loop : tie.Need-cast-loop Inv-loop μ-loop
+cast-loop c = omega arith
 
 mul-at : tie.Need-mul-at Inv-loop μ-loop
 mul-at c = omega arith
@@ -53,12 +53,12 @@ loop-less c = omega arith
 
 loop-again : tie.Need-loop-again Inv-loop μ-loop
 loop-again c =
-    among-step _ width _ (c .before .before .before .before .before .loop .inv) (c .before .before .before .before .loop-test .taken) (omega arith) _ _
+    collect-step _ width (c .before .before .before .before .before .loop .inv) (c .before .before .before .before .loop-test .taken) _ _
     (has-in _ _ _ _ (c .before .has .ensures) (c .before .before .at .ensures)) (c .with-if .ensures)
 
 returns : tie.Need-returns Inv-loop μ-loop
 unfolding gatheredIn
-returns c = among-end _ width _ (c .before .loop .inv) (c .loop-test .left)
+returns c = collect-end _ width (c .before .loop .inv) (λ u l h. absurd (omega (arith, c .loop-test .left)))
 
 pub gathered-spec : {M : Type 1} → statement M
 gathered-spec =
@@ -68,6 +68,7 @@ gathered-spec =
     μ-loop
     none-requires
     loop-holds
+    cast-loop
     mul-at
     cast-at
     add-at

@@ -11,7 +11,7 @@ use Rattle.laying.proofs.put_column.Statement.{statement}
 use Rattle.laying.proofs.put_column.Tie as tie
 
 abbrev Inv-loop : tie.InvT-loop
-Inv-loop board₀ people k v₀ board v = Put (columnsFrom + k * mostPeople) people (columnIn board₀ people k) board₀ v board
+Inv-loop board₀ people k v₀ board v = Put (columnsFrom + k * mostPeople) people (columnIn board₀ k) board₀ v board
 
 abbrev μ-loop : tie.MeasureT-loop
 μ-loop board₀ people k v₀ board v = people - v

@@ -10,7 +10,7 @@ use Rattle.laying.proofs.put_columns.Statement.{statement}
 use Rattle.laying.proofs.put_columns.Tie as tie
 
 abbrev Inv-loop : tie.InvT-loop
-Inv-loop board₀ people kinds k₀ board k = PutBlocks columnsFrom kinds people (columnIn board₀ people) board₀ k board
+Inv-loop board₀ people kinds k₀ board k = PutBlocks columnsFrom kinds people (columnIn board₀) board₀ k board
 
 abbrev μ-loop : tie.MeasureT-loop
 μ-loop board₀ people kinds k₀ board k = kinds - k

@@ -45,7 +45,7 @@ loop-less c = omega arith
 loop-again : tie.Need-loop-again Inv-loop μ-loop
 loop-again c =
     put-step _ _ _ _ (c .before .before .before .before .loop .inv) (c .before .before .before .loop-test .taken) _ _ refl
-    (loops-next _ _ _ (c .before .before .before .before .loop .inv) (omega arith) (omega arith) (c .word .ensures ∙ c .before .loops .ensures))
+    (loops-next _ _ _ (c .before .before .before .before .loop .inv) (omega arith) (c .word .ensures ∙ c .before .loops .ensures))
 
 returns : tie.Need-returns Inv-loop μ-loop
 returns c = put-end _ _ _ _ (c .before .loop .inv) (c .loop-test .left)

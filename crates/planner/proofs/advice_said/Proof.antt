@@ -1,6 +1,7 @@
-use mathlib.Core.Path.{sym, ap, _∙_}
+use mathlib.Core.Path.{sym, ap}
 use Rattle.tries.specs.Outcomes.{advisedOutcome}
 use Rattle.planner.specs.Answers.{adviceAnswer}
+use Rattle.planner.specs.OnBoard.{personTold}
 use borrow.Author.Needs.{needs}
 use Rattle.planner.proofs.advice_said.Statement.{statement}
 use Rattle.planner.proofs.advice_said.Tie as tie
@@ -17,13 +18,13 @@ enum-known-walked-2 : tie.Need-enum-known-walked-2
 enum-known-walked-2 c = search needs
 
 returns : tie.Need-returns
-returns c = sym (ap (λ w. adviceAnswer (advisedOutcome (c .before .before .args .limit) w)) (c .enum-told .given .1))
+returns c = sym (ap (λ w. adviceAnswer (personTold (advisedOutcome (c .before .before .args .limit) w))) (c .enum-told .given .1))
 
 returns-2 : tie.Need-returns-2
-returns-2 c = sym (ap (λ w. adviceAnswer (advisedOutcome (c .before .before .before .args .limit) w)) (c .before .walked .given .1))
+returns-2 c = sym (ap (λ w. adviceAnswer (personTold (advisedOutcome (c .before .before .before .args .limit) w))) (c .before .walked .given .1))
 
 returns-3 : tie.Need-returns-3
-returns-3 c = sym (ap (λ w. adviceAnswer (advisedOutcome (c .before .before .before .args .limit) w)) (c .before .walked2 .given .1))
+returns-3 c = sym (ap (λ w. adviceAnswer (personTold (advisedOutcome (c .before .before .before .args .limit) w))) (c .before .walked2 .given .1))
 
 pub advice-said-spec : {M : Type 1} → statement M
 advice-said-spec =

@@ -1,16 +1,16 @@
 use mathlib.Core.Path.{refl, _∙_}
+use Rattle.cases.proofs.Positions.{persons-length}
+use Rattle.planner.proofs.Answering.{position-good, first-good, steps-left, advice-judged, advice-refused, advice-answered}
 use native.Mathlib.Omega.{arith}
 use borrow.Author.Needs.{needs}
-use Rattle.cases.proofs.Positions.{persons-length}
-use Rattle.planner.proofs.Answering.{well-laid, position-good, first-good, steps-left, advice-judged, advice-refused, advice-answered}
 use Rattle.planner.proofs.advise_ready.Statement.{statement}
 use Rattle.planner.proofs.advise_ready.Tie as tie
 
-lay-out-requires : tie.Need-lay-out-requires
-lay-out-requires c κs = c .pre .counts
+lay-onto-requires : tie.Need-lay-onto-requires
+lay-onto-requires c κs = search needs
 
 judge-position-requires : tie.Need-judge-position-requires
-judge-position-requires c κs = c .before .before .pre .counts .steps
+judge-position-requires c κs = search needs
 
 judge-absent-requires : tie.Need-judge-absent-requires
 judge-absent-requires c κs = search needs
@@ -25,37 +25,61 @@ enum-told : tie.Need-enum-told
 enum-told c = search needs
 
 cast-left : tie.Need-cast-left
-cast-left c = omega (arith, c .before .before .before .before .before .before .before .pre .counts .steps)
+cast-left c = search needs
 
 sub-left : tie.Need-sub-left
-sub-left c = omega (arith, (position-good _ _ (c .before .before .before .before .before .before .before .before .pre) _ _ (c .before .before .before .before .before .before .before .lay-out .ensures) (c .before .before .before .before .before .judge-position .ensures) (first-good _ _ _ (c .before .before .before .or-else .ensures) (c .before .enum-told .given .1))) .short, persons-length (c .before .before .before .before .before .before .before .before .args .position))
+sub-left c =
+    let both = c .before .before .before in
+    let position = both .before .before in
+    let laid = position .before .before in
+    let start = laid .before .before in
+    let good = position-good _ _ (start .pre) _ _ (laid .lay-onto .ensures) (position .judge-position .ensures) (first-good _ _ _ (both .or-else .ensures) (c .before .enum-told .given .1)) in
+    omega (arith, good .short, persons-length (start .args .position))
 
 cast-advice-walk : tie.Need-cast-advice-walk
-cast-advice-walk c = omega (arith, c .before .before .before .before .before .before .before .before .before .pre .counts .people)
+cast-advice-walk c = search needs
 
 filled-requires : tie.Need-filled-requires
 filled-requires c κs = search needs
 
 advice-walk-requires : tie.Need-advice-walk-requires
-advice-walk-requires c κs = (c .before .before .before .before .before .before .before .before .before .before .pre .counts .people, well-laid _ (c .before .before .before .before .before .before .before .before .before .before .pre) _ (c .before .before .before .before .before .before .before .before .before .lay-out .ensures))
+advice-walk-requires c κs =
+    let laid = c .before .before .before .before .before .before .before .before .before in
+    let start = laid .before .before in
+    start .pre .counts .people
 
 advice-said-requires : tie.Need-advice-said-requires
 advice-said-requires c κs = search needs
 
 returns : tie.Need-returns
-returns c = advice-refused _ _ _ (c .before .before .before .before .before .before .before .before .pre) _ _ _ ((advice-judged _ _ _ (c .before .before .before .before .before .before .before .before .pre) _ _ _ _ _ (c .before .before .before .before .before .before .before .lay-out .ensures) (c .before .before .before .before .before .judge-position .ensures) (c .before .before .before .before .judge-absent .ensures) (c .before .before .before .or-else .ensures)) ∙ c .before .refusal .given .1)
+returns c =
+    let both = c .before .before .before in
+    let absent = both .before in
+    let position = absent .before in
+    let laid = position .before .before in
+    let start = laid .before .before in
+    let judged = advice-judged _ _ _ (start .pre) _ _ _ _ _ (laid .lay-onto .ensures) (position .judge-position .ensures) (absent .judge-absent .ensures) (both .or-else .ensures) in
+    advice-refused _ _ _ (start .pre) _ _ _ (judged ∙ c .before .refusal .given .1)
 
 returns-2 : tie.Need-returns-2
 returns-2 c =
-    advice-answered _ _ _ (c .before .before .before .before .before .before .before .before .before .before .before .before .pre) _ _ _ _ _ _ _ _ ((advice-judged _ _ _ (c .before .before .before .before .before .before .before .before .before .before .before .before .pre) _ _ _ _ _ (c .before .before .before .before .before .before .before .before .before .before .before .lay-out .ensures) (c .before .before .before .before .before .before .before .before .before .judge-position .ensures) (c .before .before .before .before .before .before .before .before .judge-absent .ensures) (c .before .before .before .before .before .before .before .or-else .ensures)) ∙ c .before .before .before .before .before .enum-told .given .1)
-    (position-good _ _ (c .before .before .before .before .before .before .before .before .before .before .before .before .pre) _ _ (c .before .before .before .before .before .before .before .before .before .before .before .lay-out .ensures) (c .before .before .before .before .before .before .before .before .before .judge-position .ensures) (first-good _ _ _ (c .before .before .before .before .before .before .before .or-else .ensures) (c .before .before .before .before .before .enum-told .given .1))) (c .before .before .before .before .before .before .before .before .before .before .before .lay-out .ensures) refl
-    (steps-left (c .before .before .before .before .before .before .before .before .before .before .before .before .args .case) (c .before .before .before .before .before .before .before .before .before .before .before .before .args .position)) (c .before .before .filled .ensures) (c .advice-said .ensures) (c .before .advice-walk .ensures)
+    let walked = c .before in
+    let told = walked .before .before .before .before in
+    let both = told .before .before in
+    let absent = both .before in
+    let position = absent .before in
+    let laid = position .before .before in
+    let start = laid .before .before in
+    let judged = advice-judged _ _ _ (start .pre) _ _ _ _ _ (laid .lay-onto .ensures) (position .judge-position .ensures) (absent .judge-absent .ensures) (both .or-else .ensures) in
+    let good = position-good _ _ (start .pre) _ _ (laid .lay-onto .ensures) (position .judge-position .ensures) (first-good _ _ _ (both .or-else .ensures) (told .enum-told .given .1)) in
+    advice-answered _ _ _ (start .pre) _ _ _ _ _ _ _ _ (judged ∙ told .enum-told .given .1) good (laid .lay-onto .ensures) refl
+    (steps-left (start .args .case) (start .args .position)) (walked .before .filled .ensures) (c .advice-said .ensures) (walked .advice-walk .ensures)
 
 pub advise-ready-spec : {M : Type 1} → statement M
 advise-ready-spec =
     tie.close
     (tie.spec
-    lay-out-requires
+    lay-onto-requires
     judge-position-requires
     judge-absent-requires
     or-else-requires

@@ -1,16 +1,16 @@
 use mathlib.Core.Path.{refl, _∙_}
+use Rattle.cases.proofs.Positions.{persons-length}
+use Rattle.planner.proofs.Answering.{position-good, steps-left, away-judged, away-refused, away-answered}
 use native.Mathlib.Omega.{arith}
 use borrow.Author.Needs.{needs}
-use Rattle.cases.proofs.Positions.{persons-length}
-use Rattle.planner.proofs.Answering.{well-laid, position-good, steps-left, away-judged, away-refused, away-answered}
 use Rattle.planner.proofs.away_ready.Statement.{statement}
 use Rattle.planner.proofs.away_ready.Tie as tie
 
-lay-out-requires : tie.Need-lay-out-requires
-lay-out-requires c κs = c .pre .counts
+lay-onto-requires : tie.Need-lay-onto-requires
+lay-onto-requires c κs = search needs
 
 judge-position-requires : tie.Need-judge-position-requires
-judge-position-requires c κs = c .before .before .pre .counts .steps
+judge-position-requires c κs = search needs
 
 enum-known-refusal : tie.Need-enum-known-refusal
 enum-known-refusal c = search needs
@@ -19,37 +19,55 @@ enum-told : tie.Need-enum-told
 enum-told c = search needs
 
 cast-left : tie.Need-cast-left
-cast-left c = omega (arith, c .before .before .before .before .before .pre .counts .steps)
+cast-left c = search needs
 
 sub-left : tie.Need-sub-left
-sub-left c = omega (arith, (position-good _ _ (c .before .before .before .before .before .before .pre) _ _ (c .before .before .before .before .before .lay-out .ensures) (c .before .before .before .judge-position .ensures) (c .before .enum-told .given .1)) .short, persons-length (c .before .before .before .before .before .before .args .position))
+sub-left c =
+    let position = c .before .before .before in
+    let laid = position .before .before in
+    let start = laid .before .before in
+    let good = position-good _ _ (start .pre) _ _ (laid .lay-onto .ensures) (position .judge-position .ensures) (c .before .enum-told .given .1) in
+    omega (arith, good .short, persons-length (start .args .position))
 
 cast-dynamic-walk : tie.Need-cast-dynamic-walk
-cast-dynamic-walk c = omega (arith, c .before .before .before .before .before .before .before .pre .counts .people)
+cast-dynamic-walk c = search needs
 
 filled-requires : tie.Need-filled-requires
 filled-requires c κs = search needs
 
 dynamic-walk-requires : tie.Need-dynamic-walk-requires
-dynamic-walk-requires c κs = (c .before .before .before .before .before .before .before .before .pre .counts .people, well-laid _ (c .before .before .before .before .before .before .before .before .pre) _ (c .before .before .before .before .before .before .before .lay-out .ensures))
+dynamic-walk-requires c κs =
+    let laid = c .before .before .before .before .before .before .before in
+    let start = laid .before .before in
+    start .pre .counts .people
 
 away-said-requires : tie.Need-away-said-requires
 away-said-requires c κs = search needs
 
 returns : tie.Need-returns
-returns c = away-refused _ _ _ (c .before .before .before .before .before .before .pre) _ _ ((away-judged _ _ (c .before .before .before .before .before .before .pre) _ _ (c .before .before .before .before .before .lay-out .ensures) (c .before .before .before .judge-position .ensures)) ∙ c .before .refusal .given .1)
+returns c =
+    let position = c .before .before .before in
+    let laid = position .before .before in
+    let start = laid .before .before in
+    away-refused _ _ _ (start .pre) _ _ (away-judged _ _ (start .pre) _ _ (laid .lay-onto .ensures) (position .judge-position .ensures) ∙ c .before .refusal .given .1)
 
 returns-2 : tie.Need-returns-2
 returns-2 c =
-    away-answered _ _ _ (c .before .before .before .before .before .before .before .before .before .before .pre) _ _ _ _ _ _ _ ((away-judged _ _ (c .before .before .before .before .before .before .before .before .before .before .pre) _ _ (c .before .before .before .before .before .before .before .before .before .lay-out .ensures) (c .before .before .before .before .before .before .before .judge-position .ensures)) ∙ c .before .before .before .before .before .enum-told .given .1)
-    (position-good _ _ (c .before .before .before .before .before .before .before .before .before .before .pre) _ _ (c .before .before .before .before .before .before .before .before .before .lay-out .ensures) (c .before .before .before .before .before .before .before .judge-position .ensures) (c .before .before .before .before .before .enum-told .given .1)) (c .before .before .before .before .before .before .before .before .before .lay-out .ensures) refl
-    (steps-left (c .before .before .before .before .before .before .before .before .before .before .args .case) (c .before .before .before .before .before .before .before .before .before .before .args .position)) (c .before .before .filled .ensures) (c .away-said .ensures) (c .before .dynamic-walk .ensures)
+    let walked = c .before in
+    let told = walked .before .before .before .before in
+    let position = told .before .before in
+    let laid = position .before .before in
+    let start = laid .before .before in
+    let judged = away-judged _ _ (start .pre) _ _ (laid .lay-onto .ensures) (position .judge-position .ensures) in
+    let good = position-good _ _ (start .pre) _ _ (laid .lay-onto .ensures) (position .judge-position .ensures) (told .enum-told .given .1) in
+    away-answered _ _ _ (start .pre) _ _ _ _ _ _ _ (judged ∙ told .enum-told .given .1) good (laid .lay-onto .ensures) refl
+    (steps-left (start .args .case) (start .args .position)) (walked .before .filled .ensures) (c .away-said .ensures) (walked .dynamic-walk .ensures)
 
 pub away-ready-spec : {M : Type 1} → statement M
 away-ready-spec =
     tie.close
     (tie.spec
-    lay-out-requires
+    lay-onto-requires
     judge-position-requires
     enum-known-refusal
     enum-told

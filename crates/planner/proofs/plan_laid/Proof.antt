@@ -18,7 +18,7 @@ plan-said-requires : tie.Need-plan-said-requires
 plan-said-requires c κs = search needs
 
 returns : tie.Need-returns
-returns c = c .plan-said .ensures ∙ ap (planAnswerOn _) (rw (nobody-shown (c .before .before .before .none .ensures), c .before .before .start .ensures) at (c .before .plan-walk .ensures))
+returns c = c .plan-said .ensures ∙ ap (planAnswerOn _) (rw (nobody-shown (c .before .before .before .none .ensures), c .before .before .start .ensures) at (c .before .plan-walk .ensures .own))
 
 pub plan-laid-spec : {M : Type 1} → statement M
 plan-laid-spec =

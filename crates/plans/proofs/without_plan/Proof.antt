@@ -1,32 +1,31 @@
-use native.Mathlib.Omega.{arith}
-use Rattle.plans.proofs.Ways.{looked-straight}
+-- A turn of the static walk: the plan walk, told as whether there is a plan.
+use mathlib.Core.Path.{sym, ap, _∙_}
 use borrow.Author.Needs.{needs}
+use Rattle.tries.specs.Outcomes.{planEnded}
+use Rattle.tries.proofs.Turns.{lacks-limit, lacks-none, lacks-some}
 use Rattle.plans.proofs.without_plan.Statement.{statement}
 use Rattle.plans.proofs.without_plan.Tie as tie
-use Rattle.plans.proofs.without_plan.Reads as reads
-use Rattle.plans.proofs.without_plan.Lts as lts
-use Rattle.plans.proofs.plan_turn.Reads as plan-turn-reads
-use Rattle.plans.proofs.straight.Reads as straight-reads
 
-straight-requires : tie.Need-straight-requires
-straight-requires c κs = search needs
-
-enum-known-trials : tie.Need-enum-known-trials
-enum-known-trials c = search needs
+plan-walk-requires : tie.Need-plan-walk-requires
+plan-walk-requires c κs = c .pre
 
 enum-told : tie.Need-enum-told
 enum-told c = search needs
 
-plan-turn-requires : tie.Need-plan-turn-requires
-plan-turn-requires c κs = search needs
+enum-known-end : tie.Need-enum-known-end
+enum-known-end c = search needs
+
+enum-known-end-2 : tie.Need-enum-known-end-2
+enum-known-end-2 c = search needs
 
 returns : tie.Need-returns
-returns c = looked-straight _ _ _ _ _ _ (c .before .before .before .straight .result) _ _ (c .before .trials .given .1) (c .before .before .before .straight .ensures)
+returns c = λ q a. lacks-limit _ _ _ (sym (ap (planEnded _ _) (c .enum-told .given .1)) ∙ c .before .before .plan-walk .ensures .others q a .1)
 
 returns-2 : tie.Need-returns-2
-returns-2 c = (c .plan-turn .ensures, omega arith, λ l. absurd (omega arith))
+returns-2 c = λ q a. lacks-none _ _ _ _ (sym (ap (planEnded _ _) (c .before .end .given .1)) ∙ c .before .before .before .plan-walk .ensures .others q a .1)
+
+returns-3 : tie.Need-returns-3
+returns-3 c = λ q a. lacks-some _ _ _ _ _ (sym (ap (planEnded _ _) (c .before .end2 .given .1)) ∙ c .before .before .before .plan-walk .ensures .others q a .1)
 
 pub without-plan-spec : {M : Type 1} → statement M
-without-plan-spec =
-    tie.close
-    (tie.spec straight-requires enum-known-trials enum-told plan-turn-requires returns returns-2)
+without-plan-spec = tie.close (tie.spec plan-walk-requires enum-told enum-known-end enum-known-end-2 returns returns-2 returns-3)

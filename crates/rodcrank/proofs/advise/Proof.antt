@@ -11,8 +11,8 @@ from-words-requires c κs = search needs
 enum-known-absent : tie.Need-enum-known-absent
 enum-known-absent c = search needs
 
-advice-requires : tie.Need-advice-requires
-advice-requires c κs = search needs
+advise-good-requires : tie.Need-advise-good-requires
+advise-good-requires c κs = search needs
 
 advice-reply-requires : tie.Need-advice-reply-requires
 advice-reply-requires c κs = search needs
@@ -30,7 +30,7 @@ returns : tie.Need-returns
 returns c =
     let known = c .before .before .before in
     let set = ap wideNumber (sym (known .absent .given .1)) ∙ known .before .before .from-words .ensures in
-    set-told _ _ _ _ _ _ set (c .before .advice .ensures) (c .advice-reply .ensures)
+    set-told _ _ _ _ _ _ set (c .before .advise-good .ensures) (c .advice-reply .ensures)
 
 returns-2 : tie.Need-returns-2
 returns-2 c =
@@ -44,7 +44,7 @@ advise-spec =
     (tie.spec
     from-words-requires
     enum-known-absent
-    advice-requires
+    advise-good-requires
     advice-reply-requires
     enum-told
     unknown-absent-requires

@@ -1,5 +1,5 @@
 use Rattle.rodcrank.specs.Calls.{adviceFile}
-use Rattle.rodcrank.proofs.Replying.{refused-told, judged-read, advice-told}
+use Rattle.rodcrank.proofs.Replying.{refused-told, judged-read, case-good, advice-told}
 use borrow.Author.Needs.{needs}
 use Rattle.rodcrank.proofs.rodcrank_advice.Statement.{statement}
 use Rattle.rodcrank.proofs.rodcrank_advice.Tie as tie
@@ -20,7 +20,7 @@ position-of-requires : tie.Need-position-of-requires
 position-of-requires c κs = search needs
 
 advise-requires : tie.Need-advise-requires
-advise-requires c κs = search needs
+advise-requires c κs = case-good _ (c .before .before .before .read .ensures) (c .before .enum-told .given .1)
 
 returns : tie.Need-returns
 unfolding adviceFile

@@ -1,5 +1,5 @@
 use Rattle.rodcrank.specs.Calls.{awayFile}
-use Rattle.rodcrank.proofs.Replying.{refused-told, judged-read, away-told}
+use Rattle.rodcrank.proofs.Replying.{refused-told, judged-read, case-good, away-told}
 use borrow.Author.Needs.{needs}
 use Rattle.rodcrank.proofs.rodcrank_away.Statement.{statement}
 use Rattle.rodcrank.proofs.rodcrank_away.Tie as tie
@@ -19,8 +19,8 @@ enum-told c = search needs
 position-of-requires : tie.Need-position-of-requires
 position-of-requires c κs = search needs
 
-away-requires : tie.Need-away-requires
-away-requires c κs = search needs
+away-good-requires : tie.Need-away-good-requires
+away-good-requires c κs = case-good _ (c .before .before .before .read .ensures) (c .before .enum-told .given .1)
 
 away-reply-requires : tie.Need-away-reply-requires
 away-reply-requires c κs = search needs
@@ -35,7 +35,7 @@ returns-2 : tie.Need-returns-2
 returns-2 c =
     let placed = c .before .before in
     let good = placed .before in
-    away-told _ (good .before .before .read .ensures) _ _ (placed .position-of .ensures) _ (good .enum-told .given .1) (c .before .away .ensures)
+    away-told _ (good .before .before .read .ensures) _ _ (placed .position-of .ensures) _ (good .enum-told .given .1) (c .before .away-good .ensures)
     (c .away-reply .ensures)
 
 pub rodcrank-away-spec : {M : Type 1} → statement M
@@ -47,7 +47,7 @@ rodcrank-away-spec =
     refused-requires
     enum-told
     position-of-requires
-    away-requires
+    away-good-requires
     away-reply-requires
     returns
     returns-2)

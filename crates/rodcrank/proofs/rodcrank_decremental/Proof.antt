@@ -1,6 +1,6 @@
 use Rattle.planner.specs.declared.Question.the-variants.{Decremental}
 use Rattle.rodcrank.specs.Calls.{decrementalFile}
-use Rattle.rodcrank.proofs.Replying.{refused-told, judged-read, question-told}
+use Rattle.rodcrank.proofs.Replying.{refused-told, judged-read, case-good, question-told}
 use borrow.Author.Needs.{needs}
 use Rattle.rodcrank.proofs.rodcrank_decremental.Statement.{statement}
 use Rattle.rodcrank.proofs.rodcrank_decremental.Tie as tie
@@ -17,8 +17,8 @@ refused-requires c κs = search needs
 enum-told : tie.Need-enum-told
 enum-told c = search needs
 
-decremental-verdict-requires : tie.Need-decremental-verdict-requires
-decremental-verdict-requires c κs = search needs
+ask-good-requires : tie.Need-ask-good-requires
+ask-good-requires c κs = case-good _ (c .before .before .read .ensures) (c .enum-told .given .1)
 
 verdict-reply-requires : tie.Need-verdict-reply-requires
 verdict-reply-requires c κs = search needs
@@ -33,7 +33,7 @@ returns-2 : tie.Need-returns-2
 unfolding decrementalFile
 returns-2 c =
     let good = c .before .before in
-    question-told _ (good .before .before .read .ensures) Decremental _ _ (good .enum-told .given .1) (c .before .decremental-verdict .ensures) (c .verdict-reply .ensures)
+    question-told _ (good .before .before .read .ensures) Decremental _ _ (good .enum-told .given .1) (c .before .ask-good .ensures) (c .verdict-reply .ensures)
 
 pub rodcrank-decremental-spec : {M : Type 1} → statement M
 rodcrank-decremental-spec =
@@ -43,7 +43,7 @@ rodcrank-decremental-spec =
     enum-known-judged
     refused-requires
     enum-told
-    decremental-verdict-requires
+    ask-good-requires
     verdict-reply-requires
     returns
     returns-2)

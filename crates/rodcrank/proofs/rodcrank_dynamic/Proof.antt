@@ -1,6 +1,6 @@
 use Rattle.planner.specs.declared.Question.the-variants.{Dynamic}
 use Rattle.rodcrank.specs.Calls.{dynamicFile}
-use Rattle.rodcrank.proofs.Replying.{refused-told, judged-read, question-told}
+use Rattle.rodcrank.proofs.Replying.{refused-told, judged-read, case-good, question-told}
 use borrow.Author.Needs.{needs}
 use Rattle.rodcrank.proofs.rodcrank_dynamic.Statement.{statement}
 use Rattle.rodcrank.proofs.rodcrank_dynamic.Tie as tie
@@ -17,8 +17,8 @@ refused-requires c κs = search needs
 enum-told : tie.Need-enum-told
 enum-told c = search needs
 
-dynamic-verdict-requires : tie.Need-dynamic-verdict-requires
-dynamic-verdict-requires c κs = search needs
+ask-good-requires : tie.Need-ask-good-requires
+ask-good-requires c κs = case-good _ (c .before .before .read .ensures) (c .enum-told .given .1)
 
 verdict-reply-requires : tie.Need-verdict-reply-requires
 verdict-reply-requires c κs = search needs
@@ -33,7 +33,7 @@ returns-2 : tie.Need-returns-2
 unfolding dynamicFile
 returns-2 c =
     let good = c .before .before in
-    question-told _ (good .before .before .read .ensures) Dynamic _ _ (good .enum-told .given .1) (c .before .dynamic-verdict .ensures) (c .verdict-reply .ensures)
+    question-told _ (good .before .before .read .ensures) Dynamic _ _ (good .enum-told .given .1) (c .before .ask-good .ensures) (c .verdict-reply .ensures)
 
 pub rodcrank-dynamic-spec : {M : Type 1} → statement M
 rodcrank-dynamic-spec =
@@ -43,7 +43,7 @@ rodcrank-dynamic-spec =
     enum-known-judged
     refused-requires
     enum-told
-    dynamic-verdict-requires
+    ask-good-requires
     verdict-reply-requires
     returns
     returns-2)

@@ -1,5 +1,5 @@
 use Rattle.rodcrank.specs.Calls.{planFile}
-use Rattle.rodcrank.proofs.Replying.{refused-told, judged-read, plan-told}
+use Rattle.rodcrank.proofs.Replying.{refused-told, judged-read, case-good, plan-told}
 use borrow.Author.Needs.{needs}
 use Rattle.rodcrank.proofs.rodcrank_plan.Statement.{statement}
 use Rattle.rodcrank.proofs.rodcrank_plan.Tie as tie
@@ -16,8 +16,8 @@ refused-requires c κs = search needs
 enum-told : tie.Need-enum-told
 enum-told c = search needs
 
-plan-requires : tie.Need-plan-requires
-plan-requires c κs = search needs
+plan-good-requires : tie.Need-plan-good-requires
+plan-good-requires c κs = case-good _ (c .before .before .read .ensures) (c .enum-told .given .1)
 
 plan-reply-requires : tie.Need-plan-reply-requires
 plan-reply-requires c κs = search needs
@@ -31,7 +31,7 @@ returns c =
 returns-2 : tie.Need-returns-2
 returns-2 c =
     let good = c .before .before in
-    plan-told _ (good .before .before .read .ensures) _ (good .enum-told .given .1) (c .before .plan .ensures) (c .plan-reply .ensures)
+    plan-told _ (good .before .before .read .ensures) _ (good .enum-told .given .1) (c .before .plan-good .ensures) (c .plan-reply .ensures)
 
 pub rodcrank-plan-spec : {M : Type 1} → statement M
 rodcrank-plan-spec =
@@ -41,7 +41,7 @@ rodcrank-plan-spec =
     enum-known-judged
     refused-requires
     enum-told
-    plan-requires
+    plan-good-requires
     plan-reply-requires
     returns
     returns-2)

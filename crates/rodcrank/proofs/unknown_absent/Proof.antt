@@ -4,8 +4,8 @@ use borrow.Author.Needs.{needs}
 use Rattle.rodcrank.proofs.unknown_absent.Statement.{statement}
 use Rattle.rodcrank.proofs.unknown_absent.Tie as tie
 
-away-requires : tie.Need-away-requires
-away-requires c κs = search needs
+away-good-requires : tie.Need-away-good-requires
+away-good-requires c κs = search needs
 
 enum-known-refusal : tie.Need-enum-known-refusal
 enum-known-refusal c = search needs
@@ -29,22 +29,22 @@ names-unknown-requires-3 : tie.Need-names-unknown-requires-3
 names-unknown-requires-3 c κs = search needs
 
 returns : tie.Need-returns
-returns c = refused-away _ _ _ (c .before .before .before .away .ensures) (c .before .refusal .given .1)
+returns c = refused-away _ _ _ (c .before .before .before .away-good .ensures) (c .before .refusal .given .1)
 
 returns-2 : tie.Need-returns-2
-returns-2 c = c .names-unknown .ensures ∙ answered-away _ _ _ (c .before .before .before .away .ensures) (ap answers (c .before .enum-told .given .1))
+returns-2 c = c .names-unknown .ensures ∙ answered-away _ _ _ (c .before .before .before .away-good .ensures) (ap answers (c .before .enum-told .given .1))
 
 returns-3 : tie.Need-returns-3
-returns-3 c = c .names-unknown2 .ensures ∙ answered-away _ _ _ (c .before .before .before .away .ensures) (ap answers (c .before .enum-told2 .given .1))
+returns-3 c = c .names-unknown2 .ensures ∙ answered-away _ _ _ (c .before .before .before .away-good .ensures) (ap answers (c .before .enum-told2 .given .1))
 
 returns-4 : tie.Need-returns-4
-returns-4 c = c .names-unknown3 .ensures ∙ answered-away _ _ _ (c .before .before .before .away .ensures) (ap answers (c .before .enum-told3 .given .1))
+returns-4 c = c .names-unknown3 .ensures ∙ answered-away _ _ _ (c .before .before .before .away-good .ensures) (ap answers (c .before .enum-told3 .given .1))
 
 pub unknown-absent-spec : {M : Type 1} → statement M
 unknown-absent-spec =
     tie.close
     (tie.spec
-    away-requires
+    away-good-requires
     enum-known-refusal
     enum-told
     names-unknown-requires

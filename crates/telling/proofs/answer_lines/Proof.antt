@@ -1,7 +1,6 @@
 use native.Mathlib.Omega.{arith}
 use borrow.Author.Needs.{needs}
 use Rattle.planner.specs.declared.Question.the-variants as question
-use Rattle.planner.proofs.Answering.{well-laid}
 use Rattle.telling.proofs.Writing.{lines-put}
 use Rattle.telling.proofs.Laid.{case-ready, planned-as, asked-as}
 use Rattle.telling.proofs.answer_lines.Statement.{statement}
@@ -26,19 +25,19 @@ cast-steps : tie.Need-cast-steps
 cast-steps c = omega (arith, case-ready _ _ (c .before .before .before .before .before .before .pre) .counts .steps)
 
 plan-laid-requires : tie.Need-plan-laid-requires
-plan-laid-requires c κs = (case-ready _ _ (c .before .before .before .before .before .before .before .pre) .counts .people, well-laid _ (case-ready _ _ (c .before .before .before .before .before .before .before .pre)) _ (c .before .before .before .lay-out .ensures))
+plan-laid-requires c κs = case-ready _ _ (c .before .before .before .before .before .before .before .pre) .counts .people
 
 ask-laid-requires : tie.Need-ask-laid-requires
-ask-laid-requires c κs = (case-ready _ _ (c .before .before .before .before .before .before .before .before .before .pre) .counts .people, well-laid _ (case-ready _ _ (c .before .before .before .before .before .before .before .before .before .pre)) _ (c .before .before .before .before .before .lay-out .ensures))
+ask-laid-requires c κs = case-ready _ _ (c .before .before .before .before .before .before .before .before .before .pre) .counts .people
 
 ask-laid-requires-2 : tie.Need-ask-laid-requires-2
-ask-laid-requires-2 c κs = (case-ready _ _ (c .before .before .before .before .before .before .before .before .before .before .before .pre) .counts .people, well-laid _ (case-ready _ _ (c .before .before .before .before .before .before .before .before .before .before .before .pre)) _ (c .before .before .before .before .before .before .before .lay-out .ensures))
+ask-laid-requires-2 c κs = case-ready _ _ (c .before .before .before .before .before .before .before .before .before .before .before .pre) .counts .people
 
 ask-laid-requires-3 : tie.Need-ask-laid-requires-3
-ask-laid-requires-3 c κs = (case-ready _ _ (c .before .before .before .before .before .before .before .before .before .before .before .before .before .pre) .counts .people, well-laid _ (case-ready _ _ (c .before .before .before .before .before .before .before .before .before .before .before .before .before .pre)) _ (c .before .before .before .before .before .before .before .before .before .lay-out .ensures))
+ask-laid-requires-3 c κs = case-ready _ _ (c .before .before .before .before .before .before .before .before .before .before .before .before .before .pre) .counts .people
 
 ask-laid-requires-4 : tie.Need-ask-laid-requires-4
-ask-laid-requires-4 c κs = (case-ready _ _ (c .before .before .before .before .before .before .before .before .before .before .before .before .before .before .before .pre) .counts .people, well-laid _ (case-ready _ _ (c .before .before .before .before .before .before .before .before .before .before .before .before .before .before .before .pre)) _ (c .before .before .before .before .before .before .before .before .before .before .before .lay-out .ensures))
+ask-laid-requires-4 c κs = case-ready _ _ (c .before .before .before .before .before .before .before .before .before .before .before .before .before .before .before .pre) .counts .people
 
 put-plan-requires : tie.Need-put-plan-requires
 put-plan-requires c κs = search needs

@@ -1,4 +1,7 @@
+-- The line for the step that is ready, the same from every position that agrees at the steps looked at.
+use mathlib.Core.Path.{sym, _∙_}
 use native.Mathlib.Omega.{arith}
+use Rattle.tries.proofs.Agreeing.{step-agree}
 use Rattle.tries.proofs.Lines.{line-is, line-none}
 use Rattle.tries.proofs.Turns.{nobody-shown}
 use borrow.Author.Needs.{needs}
@@ -11,11 +14,9 @@ cast-if1 c = search needs
 none-requires : tie.Need-none-requires
 none-requires c κs = search needs
 
-none-requires-2 : tie.Need-none-requires-2
-none-requires-2 c κs = search needs
-
 returns : tie.Need-returns
-returns c = line-none _ _ _ _ _ (c .before .before .before .pre) _ _ (c .before .before .if1 .taken) (nobody-shown (c .before .none .ensures)) (nobody-shown (c .none2 .ensures))
+returns c = λ q a.
+    line-none _ _ _ q _ (c .before .before .pre ∙ sym (step-agree _ a)) _ _ (c .before .if1 .taken) (nobody-shown (c .none .ensures)) (nobody-shown (c .none .ensures))
 
 allowed-requires : tie.Need-allowed-requires
 allowed-requires c κs = search needs
@@ -29,14 +30,15 @@ everybody-requires c κs = search needs
 common-requires : tie.Need-common-requires
 common-requires c κs = search needs
 
-fits-requires : tie.Need-fits-requires
-fits-requires c κs = search needs
+fitting-requires : tie.Need-fitting-requires
+fitting-requires c κs = search needs
 
 returns-2 : tie.Need-returns-2
-returns-2 c =
-    line-is _ _ _ _ _ (c .before .before .before .before .before .before .pre) _ _ _ _ _ (omega arith)
-    (c .before .before .before .before .allowed .ensures) (c .before .before .before .difference .ensures) (c .before .before .everybody .ensures)
-    (c .before .common .ensures) (c .fits2 .ensures)
+returns-2 c = λ q a.
+    let at = c .before .before in
+    line-is _ _ _ q _ (at .before .before .before .before .before .pre ∙ sym (step-agree _ a)) _ _ _ _ _ (omega arith)
+    (at .before .before .before .allowed .ensures) (at .before .before .difference .ensures) (at .before .everybody .ensures)
+    (at .common .ensures) (c .before .fitting .ensures q a)
 
 pub line-up-spec : {M : Type 1} → statement M
 line-up-spec =
@@ -44,11 +46,10 @@ line-up-spec =
     (tie.spec
     cast-if1
     none-requires
-    none-requires-2
     returns
     allowed-requires
     difference-requires
     everybody-requires
     common-requires
-    fits-requires
+    fitting-requires
     returns-2)

@@ -1,23 +1,33 @@
-use Rattle.layout.specs.Layout.{ruleIn}
-use Rattle.words.specs.Part.{Filled}
-use Rattle.words.proofs.Parts.{fill-start, fill-step, fill-end}
-use native.Mathlib.Omega.{arith}
 use mathlib.Core.Path.{refl}
 use Prim.Native.Nat.{_-_}
+use Rattle.words.specs.Part.{Begun}
+use Rattle.words.proofs.Parts.{begin-start, begin-step, begin-end}
+use Rattle.cases.specs.Case.{mostRules, zeroRule}
+use Rattle.layout.specs.Layout.{ruleIn}
+use Rattle.files.proofs.Past.{rule-past}
+use native.Mathlib.Omega.{arith}
+use borrow.Author.Needs.{needs}
 use Rattle.files.proofs.entries.read_rules.Statement.{statement}
 use Rattle.files.proofs.entries.read_rules.Tie as tie
 
 abbrev Inv-loop : tie.InvT-loop
-Inv-loop part rules₀ i₀ rules i = Filled (ruleIn part) 32 i rules
+Inv-loop part rules₀ i₀ rules i = Begun (ruleIn part) zeroRule mostRules i rules
 
 abbrev μ-loop : tie.MeasureT-loop
-μ-loop part rules₀ i₀ rules i = 32 - i
+μ-loop part rules₀ i₀ rules i = mostRules - i
 
 loop-holds : tie.Need-loop-holds Inv-loop μ-loop
-loop-holds c = fill-start _ _ _ refl
+loop-holds c = begin-start _ _ _ _ refl
+
+mul-if1 : tie.Need-mul-if1 Inv-loop μ-loop
+mul-if1 c = omega arith
+
+returns : tie.Need-returns Inv-loop μ-loop
+returns c =
+    begin-end _ _ _ (c .before .before .loop .inv) (λ j h k. rule-past (c .before .before .before .before .args .part .now) j (omega (arith, c .if1 .taken)))
 
 rule-at-requires : tie.Need-rule-at-requires Inv-loop μ-loop
-rule-at-requires c κs = omega arith
+rule-at-requires c κs = search needs
 
 mul-rules : tie.Need-mul-rules Inv-loop μ-loop
 mul-rules c = omega arith
@@ -32,10 +42,10 @@ loop-less : tie.Need-loop-less Inv-loop μ-loop
 loop-less c = omega arith
 
 loop-again : tie.Need-loop-again Inv-loop μ-loop
-loop-again c = fill-step _ _ (c .before .before .loop .inv) (c .before .loop-test .taken) (c .rule-at .ensures)
+loop-again c = begin-step _ _ _ (c .before .before .before .loop .inv) (c .before .before .loop-test .taken) (c .rule-at .ensures)
 
-returns : tie.Need-returns Inv-loop μ-loop
-returns c = fill-end _ _ (c .before .loop .inv) (c .loop-test .left)
+returns-2 : tie.Need-returns-2 Inv-loop μ-loop
+returns-2 c = begin-end _ _ _ (c .before .loop .inv) (λ j h k. absurd (omega (arith, c .loop-test .left)))
 
 pub read-rules-spec : {M : Type 1} → statement M
 read-rules-spec =
@@ -44,10 +54,12 @@ read-rules-spec =
     Inv-loop
     μ-loop
     loop-holds
+    mul-if1
+    returns
     rule-at-requires
     mul-rules
     array-set-from-rules
     add-i
     loop-less
     loop-again
-    returns)
+    returns-2)

@@ -1,23 +1,33 @@
-use Rattle.layout.specs.Layout.{stepIn}
-use Rattle.words.specs.Part.{Filled}
-use Rattle.words.proofs.Parts.{fill-start, fill-step, fill-end}
-use native.Mathlib.Omega.{arith}
 use mathlib.Core.Path.{refl}
 use Prim.Native.Nat.{_-_}
+use Rattle.words.specs.Part.{Begun}
+use Rattle.words.proofs.Parts.{begin-start, begin-step, begin-end}
+use Rattle.cases.specs.Case.{mostSteps, zeroStep}
+use Rattle.layout.specs.Layout.{stepIn}
+use Rattle.files.proofs.Past.{step-past}
+use native.Mathlib.Omega.{arith}
+use borrow.Author.Needs.{needs}
 use Rattle.files.proofs.entries.read_steps.Statement.{statement}
 use Rattle.files.proofs.entries.read_steps.Tie as tie
 
 abbrev Inv-loop : tie.InvT-loop
-Inv-loop part steps₀ i₀ steps i = Filled (stepIn part) 8 i steps
+Inv-loop part steps₀ i₀ steps i = Begun (stepIn part) zeroStep mostSteps i steps
 
 abbrev μ-loop : tie.MeasureT-loop
-μ-loop part steps₀ i₀ steps i = 8 - i
+μ-loop part steps₀ i₀ steps i = mostSteps - i
 
 loop-holds : tie.Need-loop-holds Inv-loop μ-loop
-loop-holds c = fill-start _ _ _ refl
+loop-holds c = begin-start _ _ _ _ refl
+
+mul-if1 : tie.Need-mul-if1 Inv-loop μ-loop
+mul-if1 c = omega arith
+
+returns : tie.Need-returns Inv-loop μ-loop
+returns c =
+    begin-end _ _ _ (c .before .before .loop .inv) (λ j h k. step-past (c .before .before .before .before .args .part .now) j (omega (arith, c .if1 .taken)))
 
 step-at-requires : tie.Need-step-at-requires Inv-loop μ-loop
-step-at-requires c κs = omega arith
+step-at-requires c κs = search needs
 
 mul-steps : tie.Need-mul-steps Inv-loop μ-loop
 mul-steps c = omega arith
@@ -32,10 +42,10 @@ loop-less : tie.Need-loop-less Inv-loop μ-loop
 loop-less c = omega arith
 
 loop-again : tie.Need-loop-again Inv-loop μ-loop
-loop-again c = fill-step _ _ (c .before .before .loop .inv) (c .before .loop-test .taken) (c .step-at .ensures)
+loop-again c = begin-step _ _ _ (c .before .before .before .loop .inv) (c .before .before .loop-test .taken) (c .step-at .ensures)
 
-returns : tie.Need-returns Inv-loop μ-loop
-returns c = fill-end _ _ (c .before .loop .inv) (c .loop-test .left)
+returns-2 : tie.Need-returns-2 Inv-loop μ-loop
+returns-2 c = begin-end _ _ _ (c .before .loop .inv) (λ j h k. absurd (omega (arith, c .loop-test .left)))
 
 pub read-steps-spec : {M : Type 1} → statement M
 read-steps-spec =
@@ -44,10 +54,12 @@ read-steps-spec =
     Inv-loop
     μ-loop
     loop-holds
+    mul-if1
+    returns
     step-at-requires
     mul-steps
     array-set-from-steps
     add-i
     loop-less
     loop-again
-    returns)
+    returns-2)

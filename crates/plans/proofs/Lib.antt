@@ -1,4 +1,0 @@
--- Plans found straight, and the static walk's trials by them.
-pub mod Sizes
-pub mod Ways
-pub mod Counted

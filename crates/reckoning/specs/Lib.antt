@@ -1,0 +1,2 @@
+-- What is reckoned.
+pub mod Reckoned

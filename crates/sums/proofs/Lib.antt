@@ -1,0 +1,10 @@
+-- The laws of sums over sets, in reading order.
+pub mod Caps
+pub mod Joins
+pub mod Reached
+pub mod Sums
+pub mod Splits
+pub mod Again
+pub mod Seeks
+pub mod Summed
+pub mod Counts
