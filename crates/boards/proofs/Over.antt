@@ -1,20 +1,20 @@
 -- Going over the members of a set, lowest first: the start, one member more, the end.
 use mathlib.Core.Path.{_≡_, refl, sym, ap, ap₂, _∙_}
-use mathlib.Core.Bool.{Bool, true, false, _&&_, _||_}
+use mathlib.Core.Bool.{Bool, true, false, not, _&&_}
 use mathlib.Core.Option.{Option, none, some}
 use mathlib.Core.List.{List, [], _∷_, _++_, append-nil}
 use Prim.Native.Nat.{ℕ, _^_, _≤_, _<_}
 use native.Mathlib.Omega.{arith}
 use lib.Seq.{append-snoc}
-use Rattle.sets.specs.Lists.{valueOr, all, any}
-use Rattle.sets.specs.Sets.{has, setOf, size, members, lowest, without, common, joined}
+use Rattle.sets.specs.Lists.{upto, valueOr, all}
+use Rattle.sets.specs.Sets.{has, setOf, size, members, lowest, without, common, difference}
 use Rattle.sets.specs.Stored.{width, number}
 use Rattle.sets.specs.declared.People.{People}
-use Rattle.sets.proofs.Lists.{and-true-end, or-false-end, all-append, any-append}
+use Rattle.sets.proofs.Lists.{and-true-end, all-append, keep-nothing}
 use Rattle.sets.proofs.Bits.{has-empty}
 use Rattle.sets.proofs.Counting.{has-setOf, setOf-has, setOf-ext}
 use Rattle.sets.proofs.Members.{lowest-none, lowest-some, lowest-size}
-use Rattle.boards.specs.Over.{Over, Narrowed, Gathered}
+use Rattle.boards.specs.Over.{Over, Narrowed}
 
 -- the lowest member, by its value
 is-some : (s x : ℕ) → x ≡ valueOr 32 (lowest 32 s) → x < 32 → lowest 32 s ≡ some x
@@ -51,40 +51,35 @@ module _ {whole left x : ℕ} {done : List ℕ} (o : Over whole left x done) whe
   over-end : 32 ≤ x → members 32 whole ≡ done
   over-end h = o .split ∙ ap (λ (r : List ℕ). done ++ r) (lowest-none 32 left (is-none left x (o .next) h)) ∙ append-nil done
 
+-- a set with one member
+pub one-member : (s x rest : ℕ) → x ≡ valueOr 32 (lowest 32 s) → x < 32 → rest ≡ without 32 s x → rest ≡ 0 → members 32 s ≡ x ∷ []
+unfolding members
+one-member s x rest e h q z =
+    lowest-some 32 s x (is-some s x e h) .2
+    ∙ ap (λ (r : ℕ). x ∷ members 32 r) (sym q ∙ z)
+    ∙ ap (λ (l : List ℕ). x ∷ l) (keep-nothing (has 0) (upto 32) (λ u m. has-empty u))
+
 and-assoc : (a b c : Bool) → (a && b) && c ≡ a && (b && c)
 and-assoc true b c = refl
 and-assoc false b c = refl
 
--- ---- those who pass the test of every member, and of some
+-- ---- those who pass the test of every member
 
 -- a member of a set that is known by its test
 has-of : (s : ℕ) (f : ℕ → Bool) → s ≡ setOf f width → (u : ℕ) → u < width → has s u ≡ f u
 has-of s f q u h = ap (λ (z : ℕ). has z u) q ∙ has-setOf f width u h
 
+-- who passes one more test: those in a set, or those who are not in it
+module _ (s here s′ : ℕ) (f : ℕ → Bool) (h : (u : ℕ) → u < width → has here u ≡ f u) where
+  pub by-common : s′ ≡ common width s here → s′ ≡ setOf (λ u. has s u && f u) width
+  by-common e = e ∙ setOf-ext _ _ width (λ u l. ap (λ (b : Bool). has s u && b) (h u l))
+
+  pub by-difference : s′ ≡ difference width s here → s′ ≡ setOf (λ u. has s u && not (f u)) width
+  by-difference e = e ∙ setOf-ext _ _ width (λ u l. ap (λ (b : Bool). has s u && not b) (h u l))
+
 module _ (test : ℕ → ℕ → Bool) where
   abbrev everyOf : List ℕ → ℕ → Bool
   everyOf done u = all (λ i. test i u) done
-
-  abbrev someOf : List ℕ → ℕ → Bool
-  someOf done u = any (λ i. test i u) done
-
-  every-step : (done : List ℕ) (x every here every′ : ℕ) → every ≡ setOf (everyOf done) width → ((u : ℕ) → u < width → has here u ≡ test x u)
-      → every′ ≡ common width every here → every′ ≡ setOf (everyOf (done ++ (x ∷ []))) width
-  unfolding all
-  every-step done x every here every′ e h q =
-      q ∙ setOf-ext _ _ width
-      (λ u l. ap₂ _&&_ (has-of every (everyOf done) e u l) (h u l ∙ sym (and-true-end (test x u)))
-      ∙ sym (all-append (λ i. test i u) done (x ∷ [])))
-
-  some-step : (done : List ℕ) (x one here one′ : ℕ) → one ≡ setOf (someOf done) width → ((u : ℕ) → u < width → has here u ≡ test x u)
-      → one′ ≡ joined width one here → one′ ≡ setOf (someOf (done ++ (x ∷ []))) width
-  unfolding any
-  some-step done x one here one′ e h q =
-      q ∙ setOf-ext _ _ width
-      (λ u l. ap₂ _||_ (has-of one (someOf done) e u l) (h u l ∙ sym (or-false-end (test x u)))
-      ∙ sym (any-append (λ i. test i u) done (x ∷ [])))
-
-  -- ---- every, of some people
 
   abbrev everyOfThose : ℕ → List ℕ → ℕ → Bool
   everyOfThose among done u = has among u && everyOf done u
@@ -99,33 +94,31 @@ module _ (test : ℕ → ℕ → Bool) where
       }
 
   module _ {among whole left x : ℕ} {every : People} (g : Narrowed test among whole left x every) where
-    narrowed-each : (here every′ : People) → ((u : ℕ) → u < width → has (number here) u ≡ test x u) → number every′ ≡ common width (number every) (number here)
-        → number every′ ≡ setOf (everyOfThose among (g .done ++ (x ∷ []))) width
+    narrowed-each : (every′ : People) → number every′ ≡ setOf (λ u. has (number every) u && test x u) width → number every′ ≡ setOf (everyOfThose among (g .done ++ (x ∷ []))) width
     unfolding all
-    narrowed-each here every′ h a =
+    narrowed-each every′ a =
         a ∙ setOf-ext _ _ width
-        (λ u l. ap₂ _&&_ (has-of (number every) (everyOfThose among (g .done)) (g .each) u l) (h u l ∙ sym (and-true-end (test x u)))
+        (λ u l. ap₂ _&&_ (has-of (number every) (everyOfThose among (g .done)) (g .each) u l) (sym (and-true-end (test x u)))
         ∙ and-assoc (has among u) (everyOf (g .done) u) (test x u && true)
         ∙ ap (λ (b : Bool). has among u && b) (sym (all-append (λ i. test i u) (g .done) (x ∷ []))))
 
-    pub narrowed-step : x < 32 → (left′ x′ : ℕ) (here every′ : People) → left′ ≡ without 32 left x → x′ ≡ valueOr 32 (lowest 32 left′)
-        → ((u : ℕ) → u < width → has (number here) u ≡ test x u) → number every′ ≡ common width (number every) (number here)
-        → Narrowed test among whole left′ x′ every′
-    narrowed-step l left′ x′ here every′ q e h a =
+    pub narrowed-step : x < 32 → (left′ x′ : ℕ) (every′ : People) → left′ ≡ without 32 left x → x′ ≡ valueOr 32 (lowest 32 left′)
+        → number every′ ≡ setOf (λ u. has (number every) u && test x u) width → Narrowed test among whole left′ x′ every′
+    narrowed-step l left′ x′ every′ q e a =
         record {
           done = g .done ++ (x ∷ []);
           over = over-step (g .over) l left′ x′ q e;
-          each = narrowed-each here every′ h a;
+          each = narrowed-each every′ a;
         }
 
     pub narrowed-end : 32 ≤ x → number every ≡ setOf (everyOfThose among (members 32 whole)) width
     narrowed-end l = g .each ∙ ap (λ (d : List ℕ). setOf (everyOfThose among d) width) (sym (over-end (g .over) l))
 
     -- nobody is left: whatever the other members ask, nobody passes
-    pub narrowed-none : x < 32 → (here every′ : People) → ((u : ℕ) → u < width → has (number here) u ≡ test x u)
-        → number every′ ≡ common width (number every) (number here) → number every′ ≡ 0 → number every′ ≡ setOf (everyOfThose among (members 32 whole)) width
-    narrowed-none l here every′ h a z =
-        let e = narrowed-each here every′ h a in
+    pub narrowed-none : x < 32 → (every′ : People) → number every′ ≡ setOf (λ u. has (number every) u && test x u) width → number every′ ≡ 0
+        → number every′ ≡ setOf (everyOfThose among (members 32 whole)) width
+    narrowed-none l every′ a z =
+        let e = narrowed-each every′ a in
         let o = over-step (g .over) l (without 32 left x) (valueOr 32 (lowest 32 (without 32 left x))) refl refl in
         e ∙ setOf-ext _ _ width (λ u k. sym
         (ap (λ (d : List ℕ). everyOfThose among d u) (o .split)
@@ -136,27 +129,3 @@ module _ (test : ℕ → ℕ → Bool) where
       where
         nobody : (b c : Bool) → b ≡ false → b && c ≡ b
         nobody b c q = ap (λ (y : Bool). y && c) q ∙ sym q
-
-  -- ---- every and some
-
-  pub gathered-start : (s x : ℕ) (every one : People) → x ≡ valueOr 32 (lowest 32 s) → number every ≡ setOf (λ u. true) width
-      → number one ≡ setOf (λ u. false) width → Gathered test s s x every one
-  unfolding all any
-  gathered-start s x every one e q r = record { done = []; over = over-start s s x refl e; each = q; one = r }
-
-  module _ {whole left x : ℕ} {every one : People} (g : Gathered test whole left x every one) where
-    pub gathered-step : x < 32 → (left′ x′ : ℕ) (here every′ one′ : People) → left′ ≡ without 32 left x → x′ ≡ valueOr 32 (lowest 32 left′)
-        → ((u : ℕ) → u < width → has (number here) u ≡ test x u) → number every′ ≡ common width (number every) (number here)
-        → number one′ ≡ joined width (number one) (number here) → Gathered test whole left′ x′ every′ one′
-    gathered-step l left′ x′ here every′ one′ q e h a b =
-        record {
-          done = g .done ++ (x ∷ []);
-          over = over-step (g .over) l left′ x′ q e;
-          each = every-step (g .done) x (number every) (number here) (number every′) (g .each) h a;
-          one = some-step (g .done) x (number one) (number here) (number one′) (g .one) h b;
-        }
-
-    pub gathered-end : 32 ≤ x → (number every ≡ setOf (everyOf (members 32 whole)) width) × (number one ≡ setOf (someOf (members 32 whole)) width)
-    gathered-end l =
-        let e = sym (over-end (g .over) l) in
-        (g .each ∙ ap (λ (d : List ℕ). setOf (everyOf d) width) e, g .one ∙ ap (λ (d : List ℕ). setOf (someOf d) width) e)

@@ -1,14 +1,14 @@
 -- The four kinds of pairs, the test of a single rule, and of those that a step completes.
-use mathlib.Core.Path.{_≡_, sym, ap, ap₂, _∙_}
-use mathlib.Core.Bool.{Bool, true, false, _&&_, _||_}
-use mathlib.Core.List.{List, _++_, append-nil}
+use mathlib.Core.Path.{_≡_, refl, sym, ap, ap₂, _∙_}
+use mathlib.Core.Bool.{Bool, true, false, not, _&&_, _||_}
+use mathlib.Core.List.{List, [], _∷_, _++_, append-nil}
 use Prim.Native.Nat.{ℕ, _<_, _^_}
 use borrow.Author.Tests.{eq-eqb, ne-eqb}
 use lib.Dec.{eqb}
 use Rattle.sets.specs.Lists.{pick, from, upto, keep, all, any}
-use Rattle.sets.specs.Sets.{has, setOf, members, common, joined, with}
+use Rattle.sets.specs.Sets.{has, setOf, members, common, difference, joined, with}
 use Rattle.sets.specs.Stored.{width, setAt}
-use Rattle.sets.proofs.Lists.{and-true-end, true-or, from-lo, from-append, keep-append, keep-nothing}
+use Rattle.sets.proofs.Lists.{and-true-end, or-false-end, true-or, from-lo, from-append, keep-append, keep-nothing}
 use Rattle.sets.proofs.Bits.{has-beyond, has-empty}
 use Rattle.sets.proofs.Counting.{has-setOf, setOf-has, setOf-ext}
 use Rattle.cases.specs.declared.Filled.{Filled}
@@ -17,7 +17,7 @@ use Rattle.cases.specs.Case.{mostSteps, mostRules}
 use Rattle.cases.specs.Rules.{stepsIn}
 use Rattle.cases.specs.Filled.{whoIn}
 use Rattle.cases.proofs.Rules.{needed-as-one}
-use Rattle.boards.specs.Board.{rowPlace, columnPlace, loopsPlace, ruleOn, fullOn, dueOn, pairOn, keptOn, fitsOn}
+use Rattle.boards.specs.Board.{rowPlace, columnPlace, loopsPlace, ruleOn, fullOn, dueOn, pairOn, everyPairOn, somePairOn, keptOn, fitsOn}
 use Rattle.boards.specs.Looked.{Agree}
 use Rattle.boards.proofs.Looked.{due-agree, kept-agree}
 
@@ -60,27 +60,79 @@ steps-wide g h =
 
 -- ---- the test of a single rule: form 2 needs some pair, the others every pair
 
+-- not every one fails: some passes
+not-all : (f : ℕ → Bool) (l : List ℕ) → not (all (λ x. not (f x)) l) ≡ any f l
+unfolding all any
+not-all f [] = refl
+not-all f (x ∷ l) = at (f x) (not-all f l)
+  where
+    at : (c : Bool) → not (all (λ y. not (f y)) l) ≡ any f l → not (not c && all (λ y. not (f y)) l) ≡ c || any f l
+    at true e = refl
+    at false e = e
+
 abbrev pub pairTest : List ℕ → Filled → ℕ → Rule → ℕ → ℕ → Bool
 pairTest b p s r x u = has (pairOn b p s (r .relation) (r .step .0) x) u
 
 pub pair-here : (b : List ℕ) (p : Filled) (s k y x here : ℕ) → here ≡ pairOn b p s k y x → (u : ℕ) → u < width → has here u ≡ has (pairOn b p s k y x) u
 pair-here b p s k y x here q u l = ap (λ (z : ℕ). has z u) q
 
-module _ (b : List ℕ) (p : Filled) (s : ℕ) (r : Rule) (small : r .group < 2 ^ mostSteps) where
+module _ (b : List ℕ) (p : Filled) (s : ℕ) (r : Rule) where
   abbrev test : ℕ → ℕ → Bool
   test = pairTest b p s r
 
-  kept-as : (c : Bool) → eqb (r .form) 2 ≡ c
-      → setOf (λ u. pick c (any (λ x. test x u) (members 32 (r .group))) (all (λ x. test x u) (members 32 (r .group)))) width
-      ≡ setOf (keptOn b p s r) width
-  unfolding keptOn
-  kept-as c e = setOf-ext _ _ width (λ u l. rw (steps-wide (r .group) small, needed-as-one (r .form) (λ x. test x u) (stepsIn (r .group)), e))
+  kept-as : (c : Bool) → eqb (r .form) 2 ≡ c → pick c (somePairOn b p s r) (everyPairOn b p s r) ≡ setOf (keptOn b p s r) width
+  unfolding keptOn somePairOn everyPairOn
+  kept-as true e = setOf-ext _ _ width (λ u l. rw (needed-as-one (r .form) (λ x. test x u) (stepsIn (r .group)), e))
+  kept-as false e = setOf-ext _ _ width (λ u l. rw (needed-as-one (r .form) (λ x. test x u) (stepsIn (r .group)), e))
 
-  pub kept-some : (n : ℕ) → n ≡ setOf (λ u. any (λ x. test x u) (members 32 (r .group))) width → r .form ≡ 2 → n ≡ setOf (keptOn b p s r) width
+  pub kept-some : (n : ℕ) → n ≡ somePairOn b p s r → r .form ≡ 2 → n ≡ setOf (keptOn b p s r) width
   kept-some n q e = q ∙ kept-as true (eq-eqb (r .form) 2 e)
 
-  pub kept-every : (n : ℕ) → n ≡ setOf (λ u. all (λ x. test x u) (members 32 (r .group))) width → (r .form ≡ 2 → ⊥) → n ≡ setOf (keptOn b p s r) width
+  pub kept-every : (n : ℕ) → n ≡ everyPairOn b p s r → (r .form ≡ 2 → ⊥) → n ≡ setOf (keptOn b p s r) width
   kept-every n q e = q ∙ kept-as false (ne-eqb (r .form) 2 e)
+
+  -- X has one member: every form asks for the pair with it
+  pub kept-one : (x n : ℕ) → r .group < 2 ^ mostSteps → members 32 (r .group) ≡ x ∷ [] → n ≡ pairOn b p s (r .relation) (r .step .0) x → n < 2 ^ width → n ≡ setOf (keptOn b p s r) width
+  unfolding keptOn all any
+  kept-one x n small e q fits =
+      sym (setOf-has width n fits)
+      ∙ setOf-ext _ _ width
+      (λ u l. ap (λ (z : ℕ). has z u) q ∙ sym (alone (eqb (r .form) 2) (test x u))
+      ∙ ap (λ (m : List ℕ). pick (eqb (r .form) 2) (any (λ y. test y u) m) (all (λ y. test y u) m)) (sym e ∙ steps-wide (r .group) small)
+      ∙ sym (needed-as-one (r .form) (λ y. test y u) (stepsIn (r .group))))
+    where
+      alone : (c d : Bool) → pick c (d || false) (d && true) ≡ d
+      alone true d = or-false-end d
+      alone false d = and-true-end d
+
+  -- what the loops over the pairs end with, begun with everybody
+  module _ (small : r .group < 2 ^ mostSteps) (among : ℕ) (whole : among ≡ setOf (λ u. true) width) where
+    everyone : (f : ℕ → Bool) → setOf (λ u. has among u && f u) width ≡ setOf f width
+    everyone f = setOf-ext _ _ width (λ u l. ap (λ (x : Bool). x && f u) (ap (λ (z : ℕ). has z u) whole ∙ has-setOf (λ v. true) width u l))
+
+    pub every-pair : (n : ℕ) → n ≡ setOf (λ u. has among u && all (λ x. test x u) (members 32 (r .group))) width → n ≡ everyPairOn b p s r
+    unfolding everyPairOn
+    every-pair n q = q ∙ everyone (λ u. all (λ x. test x u) (members 32 (r .group))) ∙ ap (λ (l : List ℕ). setOf (λ u. all (λ x. test x u) l) width) (steps-wide (r .group) small)
+
+    -- whoever is out is in no pair
+    none-out : (out : ℕ) → out ≡ setOf (λ u. has among u && all (λ x. not (test x u)) (members 32 (r .group))) width
+        → (u : ℕ) → u < width → not (has out u) ≡ any (λ x. test x u) (stepsIn (r .group))
+    none-out out q u l =
+        ap not (ap (λ (z : ℕ). has z u) (q ∙ everyone (λ v. all (λ x. not (test x v)) (members 32 (r .group)))) ∙ has-setOf (λ v. all (λ x. not (test x v)) (members 32 (r .group))) width u l)
+        ∙ not-all (λ x. test x u) (members 32 (r .group))
+        ∙ ap (any (λ x. test x u)) (steps-wide (r .group) small)
+
+    pub some-pair : (out n : ℕ) → out ≡ setOf (λ u. has among u && all (λ x. not (test x u)) (members 32 (r .group))) width → n ≡ difference width among out → n ≡ somePairOn b p s r
+    unfolding somePairOn
+    some-pair out n q e =
+        e ∙ setOf-ext _ _ width
+        (λ u l. ap₂ _&&_ (ap (λ (z : ℕ). has z u) whole ∙ has-setOf (λ v. true) width u l) (none-out out q u l))
+
+    -- nobody is out
+    pub some-pair-all : (out n : ℕ) → out ≡ setOf (λ u. has among u && all (λ x. not (test x u)) (members 32 (r .group))) width → out ≡ 0 → n ≡ setOf (λ u. true) width
+        → n ≡ somePairOn b p s r
+    unfolding somePairOn
+    some-pair-all out n q z e = e ∙ setOf-ext _ _ width (λ u l. sym (ap not (ap (λ (x : ℕ). has x u) z ∙ has-empty u)) ∙ none-out out q u l)
 
 -- ---- the rules that a step completes
 

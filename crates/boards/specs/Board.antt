@@ -16,7 +16,7 @@ use mathlib.Core.List.{List}
 use Prim.Native.Nat.{ℕ, _+_, _*_, _/_, _%_, _^_}
 use lib.Dec.{eqb}
 use lib.ListN.{getD}
-use Rattle.sets.specs.Lists.{pick, all}
+use Rattle.sets.specs.Lists.{pick, all, any}
 use Rattle.sets.specs.Sets.{has, setOf, members, common, difference, with}
 use Rattle.sets.specs.Stored.{width, setAt}
 use Rattle.cases.specs.declared.Rule.{Rule}
@@ -149,6 +149,13 @@ module _ (b : List ℕ) where
           pick (eqb y s)
           (pick (eqb x s) (setAt b (loopsPlace k)) (setAt b (columnPlace k (whoIn p x))))
           (pick (eqb x s) (setAt b (rowPlace k (whoIn p y))) (setOf (λ u. has (setAt b (rowPlace k (whoIn p y))) (whoIn p x)) width))
+
+      -- the people with whom, placed at s, every pair of a rule is in its relation, and those with whom some pair is
+      unfoldable pub everyPairOn : Rule → ℕ
+      everyPairOn r = setOf (λ u. all (λ x. has (pairOn (r .relation) (r .step .0) x) u) (stepsIn (r .group))) width
+
+      unfoldable pub somePairOn : Rule → ℕ
+      somePairOn r = setOf (λ u. any (λ x. has (pairOn (r .relation) (r .step .0) x) u) (stepsIn (r .group))) width
 
       -- with person u placed at s, a rule is kept
       unfoldable pub keptOn : Rule → ℕ → Bool

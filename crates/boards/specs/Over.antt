@@ -3,7 +3,7 @@ use mathlib.Core.Path.{_≡_}
 use mathlib.Core.Bool.{Bool, _&&_}
 use mathlib.Core.List.{List, _++_}
 use Prim.Native.Nat.{ℕ}
-use Rattle.sets.specs.Lists.{valueOr, all, any}
+use Rattle.sets.specs.Lists.{valueOr, all}
 use Rattle.sets.specs.Sets.{has, setOf, members, lowest}
 use Rattle.sets.specs.Stored.{width, number}
 use Rattle.sets.specs.declared.People.{People}
@@ -18,10 +18,3 @@ pub record Narrowed (test : ℕ → ℕ → Bool) (among whole left x : ℕ) (ev
   pub done : List ℕ
   pub over : Over whole left x done
   pub each : number every ≡ setOf (λ u. has among u && all (λ i. test i u) done) width
-
--- those who pass the test of every member done, and those who pass the test of some
-pub record Gathered (test : ℕ → ℕ → Bool) (whole left x : ℕ) (every some : People) : Type 0 where
-  pub done : List ℕ
-  pub over : Over whole left x done
-  pub each : number every ≡ setOf (λ u. all (λ i. test i u) done) width
-  pub one : number some ≡ setOf (λ u. any (λ i. test i u) done) width

@@ -17,7 +17,7 @@ ghost use lib.ListN.{getD};
 ghost use Rattle.sets.specs.Sets.{setOf, common, difference, with};
 ghost use Rattle.sets.specs.Stored.{width, number};
 ghost use Rattle.cases.specs.Case.{mostSteps, mostRules};
-ghost use Rattle.boards.specs.Board.{unpacked, allowedOn, namedOn, ruleOn, bothOn, readyOn, fullOn, dueOn, pairOn, keptOn, fitsOn};
+ghost use Rattle.boards.specs.Board.{unpacked, allowedOn, namedOn, ruleOn, bothOn, readyOn, fullOn, dueOn, pairOn, everyPairOn, somePairOn, keptOn, fitsOn};
 ghost use Rattle.boards.specs.Looked.{Fits};
 
 // How many relations there are: "same person", "different person" and the tables.
@@ -111,7 +111,7 @@ fn narrowed(board: &[u32; PLACES], p: Filled, s: Step, among: People, due: u32) 
     while i < 32 {
         let asked = rule(board, i);
         looked = joined_steps(looked, steps_of(asked));
-        kept = kept.common(keepers(board, p, s, asked));
+        kept = kept.common(kept_by(board, p, s, asked));
         if kept.is_none() {
             return Fitted {
                 people: kept,
@@ -134,35 +134,73 @@ fn steps_of(rule: Rule) -> u8
     with_step(rule.group, rule.step)
 }
 
+// The test of a single rule, as `keepers` makes it. Where X has one member every form asks for the one pair, and there is nothing to go over.
+fn kept_by(board: &[u32; PLACES], p: Filled, s: Step, rule: Rule) -> People
+    ensures { λ r. ⌜ number r ≡ setOf (keptOn (now (board .entry)) p (s .0) rule) width ⌝ }
+{
+    let group = rule.group as u32;
+    let x = lowest_in(group);
+    if x < 32 {
+        if without(group, x) == 0 {
+            return pair(board, p, s, rule, Step(x));
+        }
+    }
+    keepers(board, p, s, rule)
+}
+
 // The test of a single rule: the people with whom, placed at step s, it is kept. A pair is (person of the rule's step s, person of a member of its set X).
-// First the people with whom every pair is in the relation are gathered, and those with whom some pair is; then comes one case for each form. In the examples
-// a position lists the persons of step 0, step 1 and so on, the last of them placed next.
+// There is one case for each form. In the examples a position lists the persons of step 0, step 1 and so on, the last of them placed next.
 fn keepers(board: &[u32; PLACES], p: Filled, s: Step, rule: Rule) -> People
     ensures { λ r. ⌜ number r ≡ setOf (keptOn (now (board .entry)) p (s .0) rule) width ⌝ }
 {
-    let mut every = everybody_if(true);
-    let mut some = everybody_if(false);
-    let mut left = rule.group as u32;
-    let mut x = lowest_in(left);
-    while x < 32 {
-        let here = pair(board, p, s, rule, Step(x));
-        every = every.common(here);
-        some = some.joined(here);
-        left = without(left, x);
-        x = lowest_in(left);
-    }
     let form = rule.form;
     match form {
         // Form 1: X has one member, so every pair is the pair with it, and that is in the relation.
         // The campfire, "different person", s = 1, X = {0}: 0 1 keeps it, the pair is (1,0); 1 1 breaks it, the pair is (1,1).
-        1 => every,
+        1 => in_every_pair(board, p, s, rule),
         // Form 2: some pair is in the relation, one is enough.
         // Table {(0,1)}, s = 2, X = {0,1}: 1 2 0 keeps it by (0,1); 0 0 1 breaks it: both pairs are (1,0), and a pair is not turned round.
-        2 => some,
+        2 => in_some_pair(board, p, s, rule),
         // Form 3, the only other form in a good case: every pair is in the relation.
         // The same table, s and X: 1 1 0 keeps it, both pairs are (0,1); 1 2 0 breaks it, since (0,2) is not in the table.
-        _ => every,
+        _ => in_every_pair(board, p, s, rule),
     }
+}
+
+// The people with whom every pair is in the relation. Where a pair leaves nobody, no other is asked.
+fn in_every_pair(board: &[u32; PLACES], p: Filled, s: Step, rule: Rule) -> People
+    ensures { λ r. ⌜ number r ≡ everyPairOn (now (board .entry)) p (s .0) rule ⌝ }
+{
+    let mut every = everybody_if(true);
+    let mut left = rule.group as u32;
+    let mut x = lowest_in(left);
+    while x < 32 {
+        every = every.common(pair(board, p, s, rule, Step(x)));
+        if every.is_none() {
+            return every;
+        }
+        left = without(left, x);
+        x = lowest_in(left);
+    }
+    every
+}
+
+// The people with whom some pair is in the relation. Where a pair leaves nobody out, no other is asked.
+fn in_some_pair(board: &[u32; PLACES], p: Filled, s: Step, rule: Rule) -> People
+    ensures { λ r. ⌜ number r ≡ somePairOn (now (board .entry)) p (s .0) rule ⌝ }
+{
+    let mut out = everybody_if(true);
+    let mut left = rule.group as u32;
+    let mut x = lowest_in(left);
+    while x < 32 {
+        out = out.difference(pair(board, p, s, rule, Step(x)));
+        if out.is_none() {
+            return everybody_if(true);
+        }
+        left = without(left, x);
+        x = lowest_in(left);
+    }
+    everybody_if(true).difference(out)
 }
 
 // The people with whom, placed at step s, the pair (person of the rule's step, person of x) is in the rule's relation.

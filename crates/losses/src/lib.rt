@@ -19,7 +19,9 @@ use cases::joined_steps;
 use lines::Cursor;
 use lines::next_move;
 use plans::without_plan;
+use reckoning::NEVER;
 use reckoning::Reckoned;
+use reckoning::WORTH;
 use reckoning::away_trials;
 use reckoning::tell;
 use sets::Next;
@@ -99,7 +101,7 @@ fn away_from(
     let mut looked: u8 = 0;
     let mut gone = away;
     let mut used: u32 = 0;
-    let mut reckoned = false;
+    let mut reckon_from = WORTH;
     loop {
         let turned = desk_turn(board, people, t, gone, p, step, lined, left, limit - used);
         looked = joined_steps(looked, turned.looked);
@@ -132,10 +134,10 @@ fn away_from(
                 };
             }
         }
-        if reckoned {
+        if used < reckon_from {
             continue;
         }
-        reckoned = true;
+        reckon_from = NEVER;
         match away_trials(board, people, t, away, p, left, limit) {
             Reckoned::Sum(trials, _) => {
                 let verdict = tell(trials, limit);

@@ -127,11 +127,13 @@ use Rattle.tries.proofs.line_up.Reads as line-up-reads
 use Rattle.tries.proofs.lines_up.Reads as lines-up-reads
 use Rattle.tries.proofs.next_try.Reads as next-try-reads
 use Rattle.tries.proofs.behind.Reads as behind-reads
+use Rattle.tries.proofs.up_to.Reads as up-to-reads
 use Rattle.tries.proofs.without.Reads as line-without-reads
 use Rattle.tries.proofs.rest_alike.Reads as rest-alike-reads
 use Rattle.tries.proofs.all_bad.Reads as all-bad-reads
 use Rattle.tries.proofs.all_good.Reads as all-good-reads
 use Rattle.sums.proofs.once.Reads as once-reads
+use Rattle.sums.proofs.once_below.Reads as once-below-reads
 use Rattle.sums.proofs.product.Reads as product-reads
 use Rattle.sums.proofs.added.Reads as added-reads
 use Rattle.sums.proofs.how_many.Reads as how-many-reads
@@ -141,8 +143,8 @@ use Rattle.sums.proofs.staying.Reads as staying-reads
 use Rattle.sums.proofs.joined.Reads as joined-reads
 use Rattle.sums.proofs.raised.Reads as raised-reads
 use Rattle.plans.proofs.without_plan.Reads as without-plan-reads
-use Rattle.plans.proofs.static_walk.Reads as static-walk-reads
-use Rattle.plans.proofs.static_from.Reads as static-from-reads
+use Rattle.statics.proofs.static_walk.Reads as static-walk-reads
+use Rattle.statics.proofs.static_from.Reads as static-from-reads
 use Rattle.rounds.proofs.dynamic_walk.Reads as dynamic-walk-reads
 use Rattle.rounds.proofs.advice_walk.Reads as advice-walk-reads
 use Rattle.losses.proofs.away_turn.Reads as away-turn-reads
@@ -591,6 +593,9 @@ next-try-one κs args r s x y p q = try-same r s (p ∙ sym q)
 pub behind-one : (κs : _) (args : _) (r s : _) (x y : _) → behind-reads.Post κs args r x → behind-reads.Post κs args s y → r ≡ s
 behind-one κs args r s x y p q = line-same r s (p .0 ∙ sym (q .0)) (p .1 ∙ sym (q .1))
 
+pub up-to-one : (κs : _) (args : _) (r s : _) (x y : _) → up-to-reads.Post κs args r x → up-to-reads.Post κs args s y → r ≡ s
+up-to-one κs args r s x y p q = number-injective r s (p ∙ sym q)
+
 pub line-without-one : (κs : _) (args : _) (r s : _) (x y : _) → line-without-reads.Post κs args r x → line-without-reads.Post κs args s y → r ≡ s
 line-without-one κs args r s x y p q = line-same r s (p .0 ∙ sym (q .0)) (p .1 ∙ sym (q .1))
 
@@ -607,6 +612,10 @@ all-good-one κs args r s x y p q = verdict-same _ r s (p ∙ sym q)
 
 pub once-one : (κs : _) (args : _) (r s : _) (x y : _) → once-reads.Post κs args r x → once-reads.Post κs args s y → r ≡ s
 once-one κs args r s x y p q = p ∙ sym q
+
+pub once-below-one : (κs : _) (args : _) (r s : _) (x y : _) → once-below-reads.Post κs args r x → once-below-reads.Post κs args s y
+    → (r .held ≡ s .held) × (r .room ≡ s .room) × ((u : ℕ) → u < width → weightOf r u ≡ weightOf s u)
+once-below-one κs args r s x y p q = (p .held ∙ sym (q .held), p .room ∙ sym (q .room), λ u h. p .weights u h ∙ sym (q .weights u h))
 
 pub product-one : (κs : _) (args : _) (r s : _) (x y : _) → product-reads.Post κs args r x → product-reads.Post κs args s y → r ≡ s
 product-one κs args r s x y p q = p ∙ sym q
@@ -633,10 +642,12 @@ pub raised-one : (κs : _) (args : _) (r s : _) (x y : _) → raised-reads.Post 
     → (r .held ≡ s .held) × (r .room ≡ s .room) × ((u : ℕ) → u < width → weightOf r u ≡ weightOf s u)
 raised-one κs args r s x y p q = (p .held ∙ sym (q .held), p .room ∙ sym (q .room), λ u h. p .weights u h ∙ sym (q .weights u h))
 
--- ---- `plans`: The searches for a plan
+-- ---- `plans`: The search for a plan
 
 pub without-plan-one : (κs : _) (args : _) (r s : _) (x y : _) → without-plan-reads.Post κs args r x → without-plan-reads.Post κs args s y → r .turn ≡ s .turn
 without-plan-one κs args r s x y p q = turn-same _ _ (r .turn) (s .turn) (p _ (agree-same _ _) ∙ sym (q _ (agree-same _ _)))
+
+-- ---- `statics`: The static walk
 
 pub static-walk-one : (κs : _) (args : _) (r s : _) (x y : _) → static-walk-reads.Post κs args r x → static-walk-reads.Post κs args s y → r ≡ s
 static-walk-one κs args r s x y p q = verdict-same _ r s (p ∙ sym q)

@@ -1,29 +1,23 @@
--- What a sum says of the walks: of the static walk, and of a turn of the away side in the decremental walk.
-use mathlib.Core.Path.{_≡_, refl, sym, ap, ap₂, _∙_, subst, subst₂}
+-- What a sum says of a turn of the away side in the decremental walk.
+use mathlib.Core.Path.{_≡_, refl, sym, ap, ap₂, _∙_, subst}
 use mathlib.Core.Option.{none}
-use mathlib.Core.Bool.{true, false}
 use mathlib.Core.List.{List}
 use Prim.Native.Nat.{ℕ, zero, suc, _+_, _-_, _^_, _≤_, _<_}
 use native.Mathlib.Nat.{lt-of-lt-of-le}
 use native.Mathlib.Omega.{arith}
-use borrow.Author.Tests.{lt-ltb}
-use lib.Dec.{ltb}
 use lib.ListN.{getD-replicate}
-use lib.Pow.{pow-pos, pow-mono}
-use Rattle.sets.specs.Sets as S
-use Rattle.sets.specs.Sets.{has, size}
-use Rattle.sets.specs.Stored.{width, number, noPeople}
+use lib.Pow.{pow-mono}
+use Rattle.sets.specs.Sets.{size}
+use Rattle.sets.specs.Stored.{width, number}
 use Rattle.sets.specs.declared.People.{People}
-use Rattle.sets.proofs.Counting.{size-empty, size-width, has-setOf}
-use Rattle.sets.proofs.Masks.{everybody-is}
-use Rattle.sets.proofs.Records.{number-none}
-use Rattle.games.specs.Walks.{Search, seek, ifNone, plan, static, decremental}
+use Rattle.sets.proofs.Counting.{size-width}
+use Rattle.games.specs.Walks.{Search, decremental}
 use Rattle.games.specs.Limit.{stopped, whole, cut}
 use Rattle.games.proofs.Limits.{cut-past}
 use Rattle.cases.specs.declared.Filled.{Filled}
 use Rattle.cases.specs.Case.{mostSteps}
 use Rattle.boards.specs.Arena.{boardArena}
-use Rattle.boards.proofs.Looked.{agree-all}
+use Rattle.tries.proofs.Agreeing.{agree-everywhere}
 use Rattle.tries.specs.declared.Verdict.{Verdict}
 use Rattle.tries.specs.Outcomes as outcomes
 use Rattle.tries.specs.Outcomes.{verdictOutcome}
@@ -47,9 +41,6 @@ once-small held room left sets e h u l = omega (arith, ap (λ (a : Absences). we
 pub once-fits : (n : ℕ) (held : People) (room : ℕ) (sets : Absences) → sets ≡ once held room → number held < 2 ^ n → number (sets .held) < 2 ^ n
 once-fits n held room sets e h = subst (λ (a : Absences). number (a .held) < 2 ^ n) (sym e) h
 
-pub nobody-fits : (n : ℕ) (nobody : People) → nobody ≡ noPeople → number nobody < 2 ^ n
-nobody-fits n nobody e = omega (arith, ap number e ∙ number-none, pow-pos n)
-
 pub away-size : (n : ℕ) (away : People) → n ≤ width → number away < 2 ^ n → size n (number away) ≡ size width (number away)
 away-size n away h l = size-width n width (number away) l (lt-of-lt-of-le l (pow-mono h))
 
@@ -58,37 +49,22 @@ module _ (b : List ℕ) (n k : ℕ) (p : Filled) (few : n ≤ width) where
   summed-once : {f : ℕ → Search ℕ} {x : ℕ} (held : People) (room : ℕ) → Summed f n (weightOf (once held room)) room (number held) x → Summed f n (λ u. 1) room (number held) x
   summed-once held room s = summed-weights {v = weightOf (once held room)} {w = λ u. 1} (λ u l. once-weights held room u (omega (arith, l, few))) s
 
-  -- the static walk: nobody is held, and who is away stays
-  pub static-tells : (t : ℕ) (nobody : People) (sets : Absences) (r : Reckoned) → nobody ≡ noPeople → sets ≡ once nobody t → Says b n false sets k p r → Tells (static (boardArena b n) t k p) r
-  unfolding turnOn static
-  static-tells t nobody sets reckoned.Lost z e s = tt
-  static-tells t nobody sets (reckoned.Sum x l) z e s =
-      subst₂ (λ (m A : ℕ). Comes (seek (λ S. ifNone S (plan (boardArena b n) S k p)) (S.sets n m A)) x) same nothing
-      (summed-seek (turnOn b n (t + size n (number nobody)) false k p) n t (number nobody) x (nobody-fits n nobody z)
-      (summed-once nobody t (subst (λ (a : Absences). Summed (turnOn b n (a .room + size n (number (a .held))) false k p) n (weightOf a) (a .room) (number (a .held)) x) e s)))
-    where
-      nothing : number nobody ≡ 0
-      nothing = ap number z ∙ number-none
-
-      same : t + size n (number nobody) ≡ t
-      same = omega (arith, size-empty n, ap (size n) nothing)
-
-  decremental-comes : (r : ℕ) (away : People) (x : ℕ) → number away < 2 ^ n → Summed (turnOn b n (r + size n (number away)) true k p) n (weightOf (once away r)) r (number away) x
+  decremental-comes : (r : ℕ) (away : People) (x : ℕ) → number away < 2 ^ n → Summed (turnOn b n (r + size n (number away)) k p) n (weightOf (once away r)) r (number away) x
       → Comes (decremental (boardArena b n) (r + size n (number away)) k (number away) p) x
   unfolding turnOn decremental
   decremental-comes r away x l s = at k (summed-once away r s)
     where
-      at : (j : ℕ) → Summed (turnOn b n (r + size n (number away)) true j p) n (λ u. 1) r (number away) x → Comes (decremental (boardArena b n) (r + size n (number away)) j (number away) p) x
+      at : (j : ℕ) → Summed (turnOn b n (r + size n (number away)) j p) n (λ u. 1) r (number away) x → Comes (decremental (boardArena b n) (r + size n (number away)) j (number away) p) x
       at zero z = (refl, z .sum ∙ ap capped (over-nothing (λ u. 1) n r (number away)))
-      at (suc j) z = summed-seek (turnOn b n (r + size n (number away)) true (suc j) p) n r (number away) x l z
+      at (suc j) z = summed-seek (turnOn b n (r + size n (number away)) (suc j) p) n r (number away) x l z
 
   -- a turn of the away side: those away are held, and more may go before each later step
   pub away-tells : (t z : ℕ) (away : People) (sets : Absences) (r : Reckoned) → number away < 2 ^ n → size n (number away) ≤ t → z ≡ size width (number away) → sets ≡ once away (t - z)
-      → Says b n true sets k p r → Tells (decremental (boardArena b n) t k (number away) p) r
+      → Says b n sets k p r → Tells (decremental (boardArena b n) t k (number away) p) r
   away-tells t z away sets reckoned.Lost l h q e s = tt
   away-tells t z away sets (reckoned.Sum x i) l h q e s =
       subst (λ (m : ℕ). Comes (decremental (boardArena b n) m k (number away) p) x) same
-      (decremental-comes (t - z) away x l (subst (λ (a : Absences). Summed (turnOn b n (a .room + size n (number (a .held))) true k p) n (weightOf a) (a .room) (number (a .held)) x) e s))
+      (decremental-comes (t - z) away x l (subst (λ (a : Absences). Summed (turnOn b n (a .room + size n (number (a .held))) k p) n (weightOf a) (a .room) (number (a .held)) x) e s))
     where
       same : t - z + size n (number away) ≡ t
       same = omega (arith, q, h, away-size n away few l)
@@ -106,12 +82,8 @@ module _ (limit x : ℕ) (few : limit < 2 ^ 32) (w : Search ℕ) (c : Comes w x)
 
 -- ---- the answer from every position that agrees
 
--- with all steps looked at there is no other
-every-step : (x : ℕ) → x < mostSteps → has (2 ^ mostSteps - 1) x ≡ true
-every-step x l = ap (λ (s : ℕ). has s x) (everybody-is mostSteps mostSteps) ∙ has-setOf (λ w. ltb w mostSteps) mostSteps x l ∙ lt-ltb x mostSteps l
-
 module _ (walk : Filled → Search ℕ) (limit : ℕ) (p : Filled) {r : Reckoned} {x l : ℕ} (v : Verdict) where
   pub told-for-all : Tells (walk p) r → r ≡ reckoned.Sum x l → ((w : Search ℕ) → Comes w x → verdictOutcome limit v ≡ cut limit w)
       → outcomes.Tells walk limit p (2 ^ mostSteps - 1) (verdictOutcome limit v)
   told-for-all s e tell q a =
-      tell (walk p) (subst (Tells (walk p)) e s) ∙ ap (λ (z : Filled). cut limit (walk z)) (sym (agree-all _ p q every-step a))
+      tell (walk p) (subst (Tells (walk p)) e s) ∙ ap (λ (z : Filled). cut limit (walk z)) (sym (agree-everywhere p q a))

@@ -10,19 +10,19 @@ use borrow.Author.Tests.{eqb-true, not-true}
 use lib.Dec.{eqb}
 use lib.Pow.{pow-mono}
 use Rattle.sets.specs.Sets.{has, count, size, lowest, with, without}
-use Rattle.games.specs.Walks.{Search}
+use Rattle.games.specs.Walks.{Search, decremental}
 use Rattle.sets.specs.Stored.{width}
 use Rattle.sets.proofs.Lists.{and-true}
 use Rattle.sets.proofs.Counting.{has-setOf, is-setOf}
 use Rattle.sets.proofs.Members.{lowest-some, lowest-least}
 use Rattle.cases.specs.declared.Filled.{Filled}
-use Rattle.boards.specs.Arena.{putOn}
+use Rattle.boards.specs.Arena.{putOn, boardArena}
 use Rattle.tries.specs.Trying.{stepOn, Alone, InLine}
 use Rattle.sums.specs.Sums.{but, Reached, howMany, howManyMiss, capped, Summed}
 use Rattle.sums.proofs.Joins.{joined-has, joined-lt, joined-size}
 use Rattle.sums.proofs.Splits.{but-self, reached-never}
 use Rattle.sums.proofs.Summed.{Summing, summing-start, summing-next, summing-full, summing-never, summed-first}
-use Rattle.reckoning.specs.Reckoned.{turnOn, nextOn}
+use Rattle.reckoning.specs.Reckoned.{turnOn}
 use Rattle.reckoning.proofs.Desk.{tried-listed, fit-listed}
 use Rattle.reckoning.proofs.Turns.{turn-first}
 
@@ -39,10 +39,10 @@ pub record Lined (b : List ℕ) (n A : ℕ) (p : Filled) (T F M : ℕ) : Type 0 
   pub missed : (u : ℕ) → u < width → has M u ≡ has T u && not (has F u)
 
 -- What the loop holds: with A₀ away and room for r₀ more it has come to the sets with A away and room for r more, where `rest` still fit.
-pub record Going (b : List ℕ) (n : ℕ) (grows : Bool) (k : ℕ) (p : Filled) (w : ℕ → ℕ) (r₀ A₀ F M rest r A sum scale : ℕ) : Type 0 where
+pub record Going (b : List ℕ) (n k : ℕ) (p : Filled) (w : ℕ → ℕ) (r₀ A₀ F M rest r A sum scale : ℕ) : Type 0 where
   pub tried : ℕ
   pub lined : Lined b n A₀ p tried F M
-  pub summing : Summing (turnOn b n (r₀ + size n A₀) grows (suc k) p) n w r₀ A₀ r A sum scale
+  pub summing : Summing (turnOn b n (r₀ + size n A₀) (suc k) p) n w r₀ A₀ r A sum scale
   pub fits : A < 2 ^ n
   pub room : r ≤ r₀
   pub many : r + size n A ≡ r₀ + size n A₀
@@ -50,13 +50,13 @@ pub record Going (b : List ℕ) (n : ℕ) (grows : Bool) (k : ℕ) (p : Filled) 
   pub only : (u : ℕ) → u < width → has A u ≡ true → has A₀ u ≡ false → has F u ≡ true
   pub left : (u : ℕ) → u < width → has rest u ≡ has F u && not (has A u)
 
-pub going-start : (b : List ℕ) (n : ℕ) (grows : Bool) (k : ℕ) (p : Filled) (w : ℕ → ℕ) (r A T F M : ℕ) → Lined b n A p T F M → A < 2 ^ n
-    → Going b n grows k p w r A F M F r A 0 1
-going-start b n grows k p w r A T F M l h =
+pub going-start : (b : List ℕ) (n k : ℕ) (p : Filled) (w : ℕ → ℕ) (r A T F M : ℕ) → Lined b n A p T F M → A < 2 ^ n
+    → Going b n k p w r A F M F r A 0 1
+going-start b n k p w r A T F M l h =
     record {
       tried = T;
       lined = l;
-      summing = summing-start (turnOn b n (r + size n A) grows (suc k) p) n w r A;
+      summing = summing-start (turnOn b n (r + size n A) (suc k) p) n w r A;
       fits = h;
       room = omega arith;
       many = refl;
@@ -70,13 +70,13 @@ going-start b n grows k p w r A T F M l h =
     at u c false e = refl
 
 -- v is the first of those who still fit
-module _ {b : List ℕ} {n : ℕ} {grows : Bool} {k : ℕ} {p : Filled} {w : ℕ → ℕ} {r₀ A₀ F M rest r A sum scale : ℕ}
-    (g : Going b n grows k p w r₀ A₀ F M rest r A sum scale) (v : ℕ) (low : lowest width rest ≡ some v) where
+module _ {b : List ℕ} {n k : ℕ} {p : Filled} {w : ℕ → ℕ} {r₀ A₀ F M rest r A sum scale : ℕ}
+    (g : Going b n k p w r₀ A₀ F M rest r A sum scale) (v : ℕ) (low : lowest width rest ≡ some v) where
   abbrev turns : ℕ → Search ℕ
-  turns = turnOn b n (r₀ + size n A₀) grows (suc k) p
+  turns = turnOn b n (r₀ + size n A₀) (suc k) p
 
   abbrev nexts : ℕ → Search ℕ
-  nexts = nextOn b n (r₀ + size n A₀) grows k (putOn p v (stepOn b p))
+  nexts = λ S. decremental (boardArena b n) (r₀ + size n A₀) k S (putOn p v (stepOn b p))
 
   pub known : v < width
   known = lowest-some width rest v low .0
@@ -119,7 +119,7 @@ module _ {b : List ℕ} {n : ℕ} {grows : Bool} {k : ℕ} {p : Filled} {w : ℕ
       first : (S left : ℕ) → Reached n (but w v) n r A S left → nexts S .got ≡ none → turns S ≡ record { got = none; trials = suc (count (λ u. has M u && not (has S u)) v) + nexts S .trials }
       first S left z got =
           turn-first b n A₀ p (g .tried) F (g .lined .one) (g .lined .line) (g .lined .few) M S v (g .lined .missed) (λ u e. z .holds u (g .more u e)) known (fit-here .0)
-          (reached-never n (but w v) v z outside (but-self w v)) (λ u l e. z .holds u (before-away u l e)) (r₀ + size n A₀) k grows got
+          (reached-never n (but w v) v z outside (but-self w v)) (λ u l e. z .holds u (before-away u l e)) (r₀ + size n A₀) k got
 
   module _ {x y : ℕ} (s : Summed turns n (but w v) r A x) (q : y ≡ capped (sum + capped (scale * x))) where
     pub going-full : r ≡ 0 → Summed turns n w r₀ A₀ y
@@ -132,7 +132,7 @@ module _ {b : List ℕ} {n : ℕ} {grows : Bool} {k : ℕ} {p : Filled} {w : ℕ
 
     -- v may be away: on to the sets with v
     pub going-next : (r′ A′ rest′ scale′ : ℕ) → r ≡ suc r′ → A′ ≡ with width A v → rest′ ≡ without width rest v → scale′ ≡ capped (scale * w v)
-        → Going b n grows k p w r₀ A₀ F M rest′ r′ A′ y scale′
+        → Going b n k p w r₀ A₀ F M rest′ r′ A′ y scale′
     going-next r′ A′ rest′ scale′ e a d c =
         record {
           tried = g .tried;

@@ -1,20 +1,19 @@
 -- A turn of the desk that the first who fits holds, with the turns that follow it.
 use mathlib.Core.Path.{_≡_, refl, sym, ap, _∙_}
-use mathlib.Core.Option.{Option, none, some, Option·some-ne-none}
-use mathlib.Core.Bool.{Bool, true, false, not, _&&_}
+use mathlib.Core.Option.{Option, none}
+use mathlib.Core.Bool.{true, false, not, _&&_}
 use mathlib.Core.List.{List}
 use Prim.Native.Nat.{ℕ, zero, suc, _+_, _^_, _≤_, _<_}
-use native.Mathlib.Omega.{arith}
-use Rattle.sets.specs.Sets.{has, bit, count, size}
+use Rattle.sets.specs.Sets.{has, count, size}
 use Rattle.sets.specs.Stored.{width}
-use Rattle.games.specs.Walks.{lacking, ifNone, unbeaten, desk, plan, decremental}
+use Rattle.games.specs.Walks.{lacking, ifNone, unbeaten, decremental}
 use Rattle.cases.specs.declared.Filled.{Filled}
 use Rattle.boards.specs.Arena.{putOn, boardArena}
 use Rattle.tries.specs.Trying.{stepOn, Alone, InLine}
 use Rattle.sums.specs.Sums.{capped, Summed}
 use Rattle.sums.proofs.Sums.{over-nothing}
 use Rattle.sums.proofs.Summed.{summed-weights, summed-grown}
-use Rattle.reckoning.specs.Reckoned.{turnOn, nextOn}
+use Rattle.reckoning.specs.Reckoned.{turnOn}
 use Rattle.reckoning.proofs.Desk.{desk-first}
 
 -- ---- one turn
@@ -30,19 +29,10 @@ module _ (b : List ℕ) (n A : ℕ) (p : Filled) (T F : ℕ) (one : Alone b p) (
   before = count (λ u. has M u && not (has S u)) v
 
   -- v leads on to a position where nobody beats the desk
-  pub turn-first : (grows : Bool) → nextOn b n t grows k q S .got ≡ none
-      → turnOn b n t grows (suc k) p S ≡ record { got = none; trials = suc before + nextOn b n t grows k q S .trials }
-  unfolding turnOn nextOn ifNone plan
-  turn-first false e = at (plan (boardArena b n) S k q .got) refl e
-    where
-      at : (o : Option Filled) → plan (boardArena b n) S k q .got ≡ o → lacking S o ≡ none
-          → ifNone S (desk (boardArena b n) (plan (boardArena b n) S k) S p) ≡ record { got = none; trials = suc before + plan (boardArena b n) S k q .trials }
-      at none g z = absurd (Option·some-ne-none S z)
-      at (some x) g z =
-          ap (ifNone S)
-          (desk-first b n A p T F one line h M S v missed more known fit here earlier (plan (boardArena b n) S k) x (plan (boardArena b n) S k q .trials)
-          (ap (λ (o : Option Filled). record { got = o; trials = plan (boardArena b n) S k q .trials }) g))
-  turn-first true e =
+  pub turn-first : decremental (boardArena b n) t k S q .got ≡ none
+      → turnOn b n t (suc k) p S ≡ record { got = none; trials = suc before + decremental (boardArena b n) t k S q .trials }
+  unfolding turnOn ifNone
+  turn-first e =
       ap (ifNone S)
       (desk-first b n A p T F one line h M S v missed more known fit here earlier (λ r. unbeaten (decremental (boardArena b n) t k S r)) tt (decremental (boardArena b n) t k S q .trials)
       (ap (λ (o : Option ℕ). record { got = lacking tt o; trials = decremental (boardArena b n) t k S q .trials }) e))
@@ -51,12 +41,11 @@ module _ (b : List ℕ) (n A : ℕ) (p : Filled) (T F : ℕ) (one : Alone b p) (
 
 module _ (b : List ℕ) (n k : ℕ) (q : Filled) (v w : ℕ → ℕ) (r A : ℕ) (fits : A < 2 ^ n) where
   -- what the turns with k steps left sum up to, where each set is reached as often as it is after one step more
-  pub next-summed : (grows : Bool) (x : ℕ) → ((u : ℕ) → u < n → v u ≡ w u + bit grows)
-      → Summed (turnOn b n (r + size n A) grows k q) n v r A x → Summed (nextOn b n (r + size n A) grows k q) n w r A x
-  unfolding turnOn nextOn decremental
-  next-summed false x e s = summed-weights {v = v} {w = w} (λ u l. omega (arith, e u l)) s
-  next-summed true x e s = at k (summed-weights {v = v} {w = λ u. w u + 1} e s)
+  pub next-summed : (x : ℕ) → ((u : ℕ) → u < n → v u ≡ w u + 1)
+      → Summed (turnOn b n (r + size n A) k q) n v r A x → Summed (λ S. decremental (boardArena b n) (r + size n A) k S q) n w r A x
+  unfolding turnOn decremental
+  next-summed x e s = at k (summed-weights {v = v} {w = λ u. w u + 1} e s)
     where
-      at : (j : ℕ) → Summed (turnOn b n (r + size n A) true j q) n (λ u. w u + 1) r A x → Summed (λ S. decremental (boardArena b n) (r + size n A) j S q) n w r A x
+      at : (j : ℕ) → Summed (turnOn b n (r + size n A) j q) n (λ u. w u + 1) r A x → Summed (λ S. decremental (boardArena b n) (r + size n A) j S q) n w r A x
       at zero z = record { holds = λ S left y. refl; sum = z .sum ∙ ap capped (over-nothing (λ u. w u + 1) n r A ∙ sym (over-nothing w n r A)) }
-      at (suc j) z = summed-grown n w r A (turnOn b n (r + size n A) true (suc j) q) x fits z
+      at (suc j) z = summed-grown n w r A (turnOn b n (r + size n A) (suc j) q) x fits z

@@ -1,11 +1,10 @@
 -- The turns of the desk that are summed over, one for each absence set, and what is said of them.
-use mathlib.Core.Bool.{Bool, true, false}
 use mathlib.Core.Option.{none}
 use mathlib.Core.List.{List}
 use Prim.Native.Nat.{ℕ, zero, suc, _+_}
 use Rattle.sets.specs.Sets.{size}
 use Rattle.sets.specs.Stored.{number}
-use Rattle.games.specs.Walks.{Search, ifNone, unbeaten, desk, plan, decremental}
+use Rattle.games.specs.Walks.{Search, ifNone, unbeaten, desk, decremental}
 use Rattle.cases.specs.declared.Filled.{Filled}
 use Rattle.boards.specs.Arena.{boardArena}
 use Rattle.sums.specs.declared.Absences.{Absences}
@@ -15,23 +14,16 @@ use Rattle.reckoning.specs.declared.Reckoned.{Reckoned}
 use Rattle.reckoning.specs.declared.Reckoned.the-variants as reckoned
 
 module _ (b : List ℕ) (n t : ℕ) where
-  -- A turn of the desk with S away and k steps left: S where it beats the desk. Who is away stays to the end; or, where sets grow, more may go before
-  -- each later step, up to t.
-  unfoldable pub turnOn : Bool → ℕ → Filled → ℕ → Search ℕ
-  turnOn false k p S = ifNone S (plan (boardArena b n) S k p)
-  turnOn true zero p S = record { got = none; trials = 0 }
-  turnOn true (suc k) p S = ifNone S (desk (boardArena b n) (λ q. unbeaten (decremental (boardArena b n) t k S q)) S p)
-
-  -- what the position that it leaves is judged by
-  unfoldable pub nextOn : Bool → ℕ → Filled → ℕ → Search ℕ
-  nextOn false k q S = ifNone S (plan (boardArena b n) S k q)
-  nextOn true k q S = decremental (boardArena b n) t k S q
+  -- A turn of the desk with S away and k steps left: S where it beats the desk. More may go before each later step, up to t.
+  unfoldable pub turnOn : ℕ → Filled → ℕ → Search ℕ
+  turnOn zero p S = record { got = none; trials = 0 }
+  turnOn (suc k) p S = ifNone S (desk (boardArena b n) (λ q. unbeaten (decremental (boardArena b n) t k S q)) S p)
 
 -- what an answer says of the turns with k steps left: where there is a sum, no set beats the desk, and it is that of their trials
-abbrev pub Says : List ℕ → ℕ → Bool → Absences → ℕ → Filled → Reckoned → Type 0
-Says b n grows sets k p (reckoned.Sum x l) =
-    Summed (turnOn b n (sets .room + size n (number (sets .held))) grows k p) n (weightOf sets) (sets .room) (number (sets .held)) x
-Says b n grows sets k p reckoned.Lost = Unit {0}
+abbrev pub Says : List ℕ → ℕ → Absences → ℕ → Filled → Reckoned → Type 0
+Says b n sets k p (reckoned.Sum x l) =
+    Summed (turnOn b n (sets .room + size n (number (sets .held))) k p) n (weightOf sets) (sets .room) (number (sets .held)) x
+Says b n sets k p reckoned.Lost = Unit {0}
 
 -- what an answer says of a walk: where there is a sum, the walk comes to no set, and it is that of its trials
 abbrev pub Tells : Search ℕ → Reckoned → Type 0

@@ -1,6 +1,6 @@
-// The trials of a walk over absence sets, reckoned without going over the sets: where the desk always holds with the first person who fits, they are a sum
-// over all sets, taken together. Where it does not, nothing is said, and the walk must be made. It knows the board and the line of people at a position,
-// and no search.
+// The trials of a turn of the away side in the decremental walk, reckoned without going over the absence sets: where the desk always holds with the first
+// person who fits, they are a sum over all sets, taken together. Where it does not, nothing is said, and the walk must be made. It knows the board and the
+// line of people at a position, and no search.
 use boards::PLACES;
 use cases::Case;
 use cases::Filled;
@@ -25,7 +25,7 @@ ghost use mathlib.Core.Path.{_≡_};
 ghost use Prim.Native.Nat.{ℕ, _+_, _^_, _≤_, _<_};
 ghost use Rattle.sets.specs.Sets.{size};
 ghost use Rattle.sets.specs.Stored.{width, number};
-ghost use Rattle.games.specs.Walks.{Search, static, decremental};
+ghost use Rattle.games.specs.Walks.{Search, decremental};
 ghost use Rattle.games.specs.Limit.{cut};
 ghost use Rattle.boards.specs.Arena.{boardArena};
 ghost use Rattle.sums.specs.Sums.{Comes};
@@ -39,36 +39,16 @@ const LOOKS: u32 = 1000;
 // How many trials of a walk take about as long as one look.
 const LOOK_TRIALS: u32 = 32;
 
+// A walk of fewer trials ends sooner than they are reckoned.
+pub const WORTH: u32 = 64;
+
+// No walk but one at the highest limit has so many.
+pub const NEVER: u32 = 4294967295;
+
 // The sum of the trials, as it is told, with the looks that are left; or nothing.
 pub enum Reckoned {
     Sum(u64, u32),
     Lost,
-}
-
-// The trials of the static walk, where they can be reckoned: every set has a plan, and the first who fits leads to it.
-pub fn static_trials(
-    board: &[u32; PLACES],
-    people: u8,
-    t: u32,
-    p: Filled,
-    left: u8,
-    limit: u32,
-) -> Reckoned
-    requires { ⌜ people ≤ 32 ⌝ }
-    ensures { λ r. ⌜ Tells (static (boardArena (now (board .entry)) people) t left p) r ⌝ }
-{
-    if Case::STEPS < (left as usize) {
-        return Reckoned::Lost;
-    }
-    reckon(
-        board,
-        people,
-        false,
-        once(People::none(), t),
-        p,
-        left,
-        looks_within(limit),
-    )
 }
 
 // The trials of a turn of the away side in the decremental walk, where they can be reckoned: no set beats the desk, which holds with the first who fits.
@@ -90,7 +70,6 @@ pub fn away_trials(
     reckon(
         board,
         people,
-        true,
         once(away, t - away.size()),
         p,
         left,
@@ -105,18 +84,17 @@ fn looks_within(limit: u32) -> u32 {
 }
 
 // The trials of the desk's turns from a position, summed over absence sets; or nothing where there is too much room, no look is left, several steps are
-// ready, or the desk might not hold with the first who fits. Where sets grow, more may go before each later step.
+// ready, or the desk might not hold with the first who fits. More may go before each later step.
 fn reckon(
     board: &[u32; PLACES],
     people: u8,
-    grows: bool,
     sets: Absences,
     p: Filled,
     left: u8,
     looks: u32,
 ) -> Reckoned
     requires { ⌜ (people ≤ 32) × (number (sets .held) < 2 ^ people) × ((u : ℕ) → u < width → weightOf sets u + left < 256) ⌝ }
-    ensures { λ r. ⌜ Says (now (board .entry)) people grows sets left p r ⌝ }
+    ensures { λ r. ⌜ Says (now (board .entry)) people sets left p r ⌝ }
 {
     if left == 0 {
         return Reckoned::Sum(0, looks);
@@ -154,8 +132,7 @@ fn reckon(
                 match reckon(
                     board,
                     people,
-                    grows,
-                    raised(stay, grows),
+                    raised(stay),
                     p.placed(step, Person(v)),
                     left - 1,
                     more_looks,

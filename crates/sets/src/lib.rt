@@ -238,7 +238,11 @@ impl People {
     pub fn before(self, v: u8) -> u32
         ensures { λ r. ⌜ r ≡ sizeBefore width (number self) v ⌝ }
     {
-        self.common(People::everybody(v)).size()
+        let earlier = self.common(People::everybody(v));
+        if earlier.is_none() {
+            return 0;
+        }
+        earlier.size()
     }
 
     // The members after person v.

@@ -1,7 +1,7 @@
 -- How many sets there are: what the loops that count them hold.
 use mathlib.Core.Path.{_≡_, refl, sym, ap, ap₂, _∙_, fun-ext}
 use mathlib.Core.Logic.{_⊎_, inl, inr}
-use mathlib.Core.Bool.{Bool, true, false, not}
+use mathlib.Core.Bool.{Bool, true, false}
 use mathlib.Core.List.{List}
 use Prim.Native.Nat.{ℕ, zero, suc, _+_, _-_, _*_, _^_, _≤_, _<_}
 use native.Mathlib.Nat.{add-assoc, add-zero, mul-le-mul, mul-zero, zero-mul, le-refl}
@@ -10,16 +10,17 @@ use native.Mathlib.Decide.{decLt, ℕ-discrete}
 use native.Mathlib.Omega.{arith}
 use lib.ListN.{length, set, replicate, length-set, getD-replicate, List·getD-eq-default}
 use lib.Seq.{getD-set-same, getD-set-other, set-out}
-use borrow.Author.Tests.{eq-eqb, ne-eqb, not-true, not-false}
+use borrow.Author.Tests.{eq-eqb, ne-eqb}
 use Rattle.sets.specs.Lists.{pick}
-use Rattle.sets.specs.Sets.{has, bit}
+use Rattle.sets.specs.Sets.{has}
 use Rattle.sets.specs.Stored.{number}
 use Rattle.sets.specs.declared.People.{People}
-use Rattle.sets.proofs.Lists.{lt-or-eq}
+use Rattle.sets.proofs.Lists.{pick-lt, pick-ge, lt-or-eq}
 use Rattle.sets.proofs.Bits.{joined-low}
-use Rattle.sums.specs.Sums.{over, but, howMany, howManyMiss, most, capped}
-use Rattle.sums.specs.Arrays.{entry, Under, earlier, OneMore, weightOf, staying, Raised}
+use Rattle.sums.specs.Sums.{over, but, onlyBelow, howMany, howManyMiss, most, capped}
+use Rattle.sums.specs.Arrays.{entry, Under, earlier, OneMore, weightOf, OnceBelow, staying, Raised}
 use Rattle.sums.specs.declared.Absences.{Absences}
+use Rattle.sums.proofs.Sums.{over-nobody}
 use Rattle.sums.proofs.Caps.{capped-plus, capped-left, capped-right, capped-times}
 
 -- ---- products
@@ -58,34 +59,42 @@ joining-step {e} {w} {j} {out} {before} x y a h q k =
         ∙ ap (λ (n : ℕ). capped (e n + w * earlier e n)) (sym d)
     at i (inr l) = getD-set-other out j i y 0 (λ d. omega arith) ∙ a .done i l
 
-pub joining-end : {e : ℕ → ℕ} {w j : ℕ} {out : List ℕ} {before : ℕ} → Joining e w j out before → 9 ≤ j → OneMore w e out
+pub joining-end : {e : ℕ → ℕ} {r w j : ℕ} {out : List ℕ} {before : ℕ} → Joining e w j out before → r < j → OneMore r w e out
 joining-end a h i l = a .done i (omega arith)
 
--- no sum is too large
-earlier-le : (l : List ℕ) (j : ℕ) → Under l → j ≤ 8 → earlier (entry l) j ≤ most
-earlier-le l zero u h = omega arith
-earlier-le l (suc j) u h = u j (omega arith)
+-- whoever does not count changes nothing
+pub joining-nobody : (l : List ℕ) (r w : ℕ) → Under r l → w ≡ 0 → OneMore r w (entry l) l
+joining-nobody l r w u e j h = omega (arith, u j h, ap (λ (x : ℕ). x * earlier (entry l) j) e, zero-mul (earlier (entry l) j))
 
-pub joining-fits : (l : List ℕ) {w j : ℕ} {out : List ℕ} {before : ℕ} (x : ℕ) → Joining (entry l) w j out before → j < 9 → Under l → x ≡ entry l j → w < 256
+-- no sum is too large
+earlier-le : (l : List ℕ) (r j : ℕ) → Under r l → j ≤ r → earlier (entry l) j ≤ most
+earlier-le l r zero u h = omega arith
+earlier-le l r (suc j) u h = u j (omega arith)
+
+pub joining-fits : (l : List ℕ) {r w j : ℕ} {out : List ℕ} {before : ℕ} (x : ℕ) → Joining (entry l) w j out before → j ≤ r → Under r l → x ≡ entry l j → w < 256
     → (w * before < 2 ^ 63) × (x + w * before < 2 ^ 64)
-joining-fits l {w} {j} {out} {before} x a h u q g =
-    let b = earlier-le l j u (omega arith) in
+joining-fits l {r} {w} {j} {out} {before} x a h u q g =
+    let b = earlier-le l r j u h in
     let k = mul-le-mul {n₁ = w} {m₁ = before} {n₂ = 255} {m₂ = most} (omega arith) (omega (arith, a .before-is)) in
-    let m = u j (omega arith) in
+    let m = u j h in
     (omega arith, omega arith)
 
 -- ---- person after person
 
--- what the loop holds: each sum is that of the first u people
-abbrev pub Counting : (ℕ → ℕ) → ℕ → ℕ → List ℕ → Type 0
-Counting w A u sums = (j : ℕ) → j ≤ 8 → entry sums j ≡ capped (howMany w u j A)
+-- what the loop holds: each sum up to place r is that of the first u people
+abbrev pub Counting : (ℕ → ℕ) → ℕ → ℕ → ℕ → List ℕ → Type 0
+Counting w A r u sums = (j : ℕ) → j ≤ r → entry sums j ≡ capped (howMany w u j A)
 
-pub counting-start : (w : ℕ → ℕ) (A : ℕ) → Counting w A 0 (replicate 9 1)
+pub counting-start : (w : ℕ → ℕ) (A r : ℕ) → r ≤ 8 → Counting w A r 0 (replicate 9 1)
 unfolding over
-counting-start w A j h = getD-replicate 9 j 1 0 (omega arith)
+counting-start w A r k j h = getD-replicate 9 j 1 0 (omega arith)
 
-pub counting-under : (w : ℕ → ℕ) (A u : ℕ) (sums : List ℕ) → Counting w A u sums → Under sums
-counting-under w A u sums h j l = omega (arith, h j l)
+pub counting-under : (w : ℕ → ℕ) (A r u : ℕ) (sums : List ℕ) → Counting w A r u sums → Under r sums
+counting-under w A r u sums h j l = omega (arith, h j l)
+
+-- where nobody may join there is one set
+pub counting-alone : (w : ℕ → ℕ) (n r A : ℕ) → r ≡ 0 → 1 ≡ capped (howMany w n r A)
+counting-alone w n r A e = sym (ap capped (ap (λ (x : ℕ). howMany w n x A) e ∙ over-nobody (λ S left. 1) w n A))
 
 -- who is there matters only below those who may join
 same-many : (w : ℕ → ℕ) (m r A B : ℕ) → ((u : ℕ) → u < m → has A u ≡ has B u) → howMany w m r A ≡ howMany w m r B
@@ -106,11 +115,11 @@ many-more w m r A =
     at true = sym (zero-mul (howMany w m r A))
     at false = refl
 
-pub counting-step : (w : ℕ → ℕ) (A u p : ℕ) (sums next : List ℕ) → Counting w A u sums → p ≡ pick (has A u) 0 (w u) → OneMore p (entry sums) next → Counting w A (u + 1) next
+pub counting-step : (w : ℕ → ℕ) (A r u p : ℕ) (sums next : List ℕ) → Counting w A r u sums → p ≡ pick (has A u) 0 (w u) → OneMore r p (entry sums) next → Counting w A r (u + 1) next
 unfolding over
-counting-step w A u p sums next h e g j l = g j l ∙ at j l ∙ ap (λ (m : ℕ). capped (howMany w m j A)) (sym (add-one u))
+counting-step w A r u p sums next h e g j l = g j l ∙ at j l ∙ ap (λ (m : ℕ). capped (howMany w m j A)) (sym (add-one u))
   where
-    at : (j : ℕ) → j ≤ 8 → capped (entry sums j + p * earlier (entry sums) j) ≡ capped (howMany w (suc u) j A)
+    at : (j : ℕ) → j ≤ r → capped (entry sums j + p * earlier (entry sums) j) ≡ capped (howMany w (suc u) j A)
     at zero l = omega (arith, h 0 l, mul-zero p)
     at (suc j) l =
         ap₂ (λ (x y : ℕ). capped (x + p * y)) (h (suc j) l) (h j (omega arith))
@@ -121,8 +130,8 @@ counting-step w A u p sums next h e g j l = g j l ∙ at j l ∙ ap (λ (m : ℕ
         ∙ ap (λ (x : ℕ). capped (howMany w u (suc j) A + x * howMany w u j A)) e
         ∙ ap capped (sym (many-more w u j A))
 
-pub counting-end : (w : ℕ → ℕ) (A u n : ℕ) (sums : List ℕ) → Counting w A u sums → u ≤ n → n ≤ u → (r : ℕ) → r ≤ 8 → entry sums r ≡ capped (howMany w n r A)
-counting-end w A u n sums h a b r l = let e : u ≡ n = omega arith in h r l ∙ ap (λ (m : ℕ). capped (howMany w m r A)) e
+pub counting-end : (w : ℕ → ℕ) (A r u n : ℕ) (sums : List ℕ) → Counting w A r u sums → u ≤ n → n ≤ u → entry sums r ≡ capped (howMany w n r A)
+counting-end w A r u n sums h a b = let e : u ≡ n = omega arith in h r (le-refl r) ∙ ap (λ (m : ℕ). capped (howMany w m r A)) e
 
 -- ---- those who stay
 
@@ -139,6 +148,32 @@ staying-entry l v u = at (ℕ-discrete u v)
 
 pub staying-weights : (sets : Absences) (v : ℕ) → weightOf (staying sets v) ≡ but (weightOf sets) v
 staying-weights sets v = fun-ext (staying-entry (sets .weights) v)
+
+-- ---- those below alone
+
+-- what the loop holds: the first u weights are made
+pub record Weighing (u : ℕ) (l : List ℕ) : Type 0 where
+  pub long : length l ≡ 32
+  pub made : (i : ℕ) → i < 32 → entry l i ≡ onlyBelow u i
+
+pub weighing-start : Weighing 0 (replicate 32 0)
+weighing-start = record { long = refl; made = λ i h. getD-replicate 32 i 0 0 h ∙ pick-ge i 0 1 0 (omega arith) }
+
+pub weighing-step : {u : ℕ} {l : List ℕ} → Weighing u l → u < 32 → Weighing (u + 1) (set l u 1)
+weighing-step {u} {l} a h = record { long = length-set l u 1 ∙ a .long; made = λ i b. at i b (decLt i u) (decLt u i) }
+  where
+    at : (i : ℕ) → i < 32 → Dec (i < u) → Dec (u < i) → entry (set l u 1) i ≡ onlyBelow (u + 1) i
+    at i b (yes k) d = getD-set-other l u i 1 0 (λ e. omega arith) ∙ a .made i b ∙ sym (pick-lt i u 1 0 k) ∙ pick-lt i (u + 1) 1 0 (omega arith)
+    at i b (no k) (yes d) = getD-set-other l u i 1 0 (λ e. omega arith) ∙ a .made i b ∙ sym (pick-ge i u 1 0 (omega arith)) ∙ pick-ge i (u + 1) 1 0 (omega arith)
+    at i b (no k) (no d) =
+        let e : i ≡ u = omega arith in
+        ap (entry (set l u 1)) e ∙ getD-set-same l u 1 0 (omega (arith, a .long)) ∙ pick-lt i (u + 1) 1 0 (omega arith)
+
+pub weighing-end : {u : ℕ} {l : List ℕ} (held : People) (room below : ℕ) → Weighing u l → u ≤ below → below ≤ u
+    → OnceBelow held room below (record { held = held; room = room; weights = l })
+weighing-end {u} held room below a h k =
+    let e : u ≡ below = omega arith in
+    record { held = refl; room = refl; weights = λ i b. a .made i b ∙ ap (λ (j : ℕ). onlyBelow j i) e }
 
 -- ---- trials
 
@@ -198,12 +233,5 @@ raising-step {l} {more} {u} a h = record { long = length-set more u (entry l u +
     at i (inl e) = ap (entry (set more u (entry l u + 1))) e ∙ getD-set-same more u (entry l u + 1) 0 (omega (arith, a .long)) ∙ ap (λ (j : ℕ). entry l j + 1) (sym e)
     at i (inr b) = getD-set-other more u i (entry l u + 1) 0 (λ e. omega arith) ∙ a .done i b
 
--- nobody more may go
-pub raised-not : {grows : Bool} (sets : Absences) → not grows ≡ true → Raised grows sets sets
-raised-not {grows} sets e =
-    record { held = refl; room = refl; weights = λ u h. let z : bit grows ≡ 0 = ap bit (not-true grows e) in omega arith }
-
-pub raised-all : {grows : Bool} {u : ℕ} {more : List ℕ} (sets : Absences) → not grows ≡ false → Raising (sets .weights) u more → 32 ≤ u
-    → Raised grows sets (record { held = sets .held; room = sets .room; weights = more })
-raised-all {grows} {u} {more} sets e a h =
-    record { held = refl; room = refl; weights = λ i b. a .done i (omega arith) ∙ ap (λ (g : Bool). entry (sets .weights) i + bit g) (sym (not-false grows e)) }
+pub raised-all : {u : ℕ} {more : List ℕ} (sets : Absences) → Raising (sets .weights) u more → 32 ≤ u → Raised sets (record { held = sets .held; room = sets .room; weights = more })
+raised-all sets a h = record { held = refl; room = refl; weights = λ i b. a .done i (omega arith) }

@@ -6,5 +6,7 @@ pub mod Sums
 pub mod Splits
 pub mod Again
 pub mod Seeks
+pub mod Jumps
 pub mod Summed
+pub mod Completed
 pub mod Counts

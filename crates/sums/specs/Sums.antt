@@ -3,7 +3,7 @@ use mathlib.Core.Path.{_≡_}
 use mathlib.Core.Bool.{true, false}
 use mathlib.Core.Option.{none}
 use Prim.Native.Nat.{ℕ, zero, suc, _+_, _*_, _^_, _<_, min}
-use lib.Dec.{eqb}
+use lib.Dec.{eqb, ltb}
 use Rattle.sets.specs.Lists.{pick}
 use Rattle.sets.specs.Sets.{has, size}
 use Rattle.games.specs.Walks.{Search}
@@ -18,6 +18,10 @@ over f w (suc m) (suc r) A = over f w m (suc r) A + pick (has A m) 0 (w m * over
 -- the weights with nobody joining as person u
 abbrev pub but : (ℕ → ℕ) → ℕ → ℕ → ℕ
 but w u v = pick (eqb v u) 0 (w v)
+
+-- the weights with nobody joining but those below h, once each
+abbrev pub onlyBelow : ℕ → ℕ → ℕ
+onlyBelow h u = pick (ltb u h) 1 0
 
 -- S is one of these sets, as a set of n people, and `left` may still join
 pub record Reached (n : ℕ) (w : ℕ → ℕ) (m r A S left : ℕ) : Type 0 where

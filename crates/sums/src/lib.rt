@@ -7,7 +7,7 @@ ghost use Rattle.sets.specs.Lists.{pick};
 ghost use Rattle.sets.specs.Sets.{has};
 ghost use Rattle.sets.specs.Stored.{width, number};
 ghost use Rattle.sums.specs.Sums.{howMany, howManyMiss, but, most, capped};
-ghost use Rattle.sums.specs.Arrays.{entry, Under, OneMore, weightOf, once, staying, JoinedBy, Raised};
+ghost use Rattle.sums.specs.Arrays.{entry, Under, OneMore, weightOf, once, OnceBelow, staying, JoinedBy, Raised};
 
 // How many people may join at most.
 pub const ROOM: u32 = 8;
@@ -33,6 +33,24 @@ pub fn once(held: People, room: u32) -> Absences
         held: held,
         room: room,
         weights: [1u8; 32],
+    }
+}
+
+// The same, where the others are among the first `below` people.
+pub fn once_below(held: People, room: u32, below: u8) -> Absences
+    requires { ⌜ below ≤ width ⌝ }
+    ensures { λ r. ⌜ OnceBelow held room below r ⌝ }
+{
+    let mut weights = [0u8; 32];
+    let mut u: u8 = 0;
+    while u < below {
+        weights[u as usize] = 1;
+        u += 1;
+    }
+    Absences {
+        held: held,
+        room: room,
+        weights: weights,
     }
 }
 
@@ -70,26 +88,32 @@ pub fn how_many(people: u8, sets: Absences) -> u64
     requires { ⌜ (people ≤ width) × (sets .room ≤ 8) ⌝ }
     ensures { λ r. ⌜ r ≡ capped (howMany (weightOf sets) people (sets .room) (number (sets .held))) ⌝ }
 {
+    let room = sets.room as usize;
+    if room == 0 {
+        return 1;
+    }
     let mut sums = [1u64; SUMS];
     let mut u: u8 = 0;
     while u < people {
-        let next = one_more(sums, weight(sets, u));
+        let next = one_more(sums, room, weight(sets, u));
         sums = next;
         u += 1;
     }
-    let room = sets.room as usize;
     sums[room]
 }
 
-// The sums with one person more, who counts w times.
-fn one_more(sums: [u64; SUMS], w: u8) -> [u64; SUMS]
-    requires { ⌜ Under sums ⌝ }
-    ensures { λ r. ⌜ OneMore w (entry sums) r ⌝ }
+// The sums with one person more, who counts w times, as far as there is room.
+fn one_more(sums: [u64; SUMS], room: usize, w: u8) -> [u64; SUMS]
+    requires { ⌜ (room ≤ 8) × Under room sums ⌝ }
+    ensures { λ r. ⌜ OneMore room w (entry sums) r ⌝ }
 {
+    if w == 0 {
+        return sums;
+    }
     let mut out = [0u64; SUMS];
     let mut before: u64 = 0;
     let mut j: usize = 0;
-    while j < SUMS {
+    while j <= room {
         let here = sums[j];
         out[j] = capped(here + (w as u64) * before);
         before = here;
@@ -160,14 +184,11 @@ pub fn joined(sets: Absences, v: u8) -> Absences
     }
 }
 
-// The sets as they are summed over after one step more: where more may go, each set is reached once more by everybody who joined.
-pub fn raised(sets: Absences, grows: bool) -> Absences
+// The sets as they are summed over after one step more, before which more may go: everybody who joins counts once more.
+pub fn raised(sets: Absences) -> Absences
     requires { ⌜ ((u : ℕ) → u < width → weightOf sets u < 255) ⌝ }
-    ensures { λ r. ⌜ Raised grows sets r ⌝ }
+    ensures { λ r. ⌜ Raised sets r ⌝ }
 {
-    if !grows {
-        return sets;
-    }
     let held = sets.held;
     let weights = sets.weights;
     let mut more = [0u8; 32];

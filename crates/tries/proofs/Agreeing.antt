@@ -2,16 +2,17 @@
 use mathlib.Core.Path.{_≡_, refl, sym, ap, ap₂, _∙_, subst}
 use mathlib.Core.Bool.{Bool, true, false, not, _&&_, true≢false}
 use mathlib.Core.List.{List}
-use Prim.Native.Nat.{ℕ, _<_}
+use Prim.Native.Nat.{ℕ, _-_, _^_, _<_}
 use native.Mathlib.Decide.{ℕ-discrete}
 use native.Mathlib.Omega.{arith}
-use borrow.Author.Tests.{eqb-true, ne-eqb}
-use lib.Dec.{eqb}
+use borrow.Author.Tests.{eqb-true, ne-eqb, lt-ltb}
+use lib.Dec.{eqb, ltb}
 use Rattle.sets.specs.Sets.{has, without, lowest}
 use Rattle.sets.specs.Lists.{valueOr}
 use Rattle.sets.proofs.Lists.{true-and}
 use Rattle.sets.proofs.Bits.{has-empty}
 use Rattle.sets.proofs.Counting.{has-setOf}
+use Rattle.sets.proofs.Masks.{everybody-is}
 use Rattle.cases.specs.declared.Person.{Person}
 use Rattle.cases.specs.declared.Step.{Step}
 use Rattle.cases.specs.declared.Filled.{Filled}
@@ -20,7 +21,7 @@ use Rattle.cases.specs.Filled.{placedAt}
 use Rattle.boards.specs.Board.{readyOn}
 use Rattle.boards.specs.Arena.{putOn}
 use Rattle.boards.specs.Looked.{Agree}
-use Rattle.boards.proofs.Looked.{ready-agree, agree-put, agree-other}
+use Rattle.boards.proofs.Looked.{ready-agree, agree-put, agree-other, agree-all}
 use Rattle.tries.specs.Trying.{stepOn, severalOn, Alone}
 
 -- ---- the step that is ready
@@ -79,3 +80,11 @@ not-asked L s e h = sym e ∙ go _ h
     go : (x : Bool) → not x ≡ true → x ≡ false
     go true q = sym q
     go false q = refl
+
+-- ---- with all steps looked at there is no other
+
+every-step : (x : ℕ) → x < mostSteps → has (2 ^ mostSteps - 1) x ≡ true
+every-step x l = ap (λ (s : ℕ). has s x) (everybody-is mostSteps mostSteps) ∙ has-setOf (λ w. ltb w mostSteps) mostSteps x l ∙ lt-ltb x mostSteps l
+
+pub agree-everywhere : (p q : Filled) → Agree (2 ^ mostSteps - 1) p q → q ≡ p
+agree-everywhere p q a = agree-all _ p q every-step a

@@ -8,5 +8,6 @@ pub mod Turns
 pub mod Showing
 pub mod Agreeing
 pub mod Alike
+pub mod Away
 pub mod Good
 pub mod Choosing

@@ -78,7 +78,7 @@ module _ {A R S : Type 0} (h : Hunt A R S) where
 pub has-after : (s v u : ℕ) → u < width → has (after width s v) u ≡ has s u && ltb v u
 has-after s v u h = has-setOf (λ w. has s w && ltb v w) width u h
 
-after-inside : (T F v u : ℕ) → u < width → (has F u ≡ true → has T u ≡ true) → has (after width F v) u ≡ true → has (after width T v) u ≡ true
+pub after-inside : (T F v u : ℕ) → u < width → (has F u ≡ true → has T u ≡ true) → has (after width F v) u ≡ true → has (after width T v) u ≡ true
 after-inside T F v u h i e =
     let k = and-true (has F u) (ltb v u) (sym (has-after F v u h) ∙ e) in
     has-after T v u h ∙ true-and (has T u) (ltb v u) (i (k .0)) (k .1)

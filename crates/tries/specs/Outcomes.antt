@@ -1,9 +1,11 @@
 -- What the searches' answers say, as the answers of `cut`; and the walks of `games` on a board that they are compared with.
 use mathlib.Core.Path.{_≡_}
+use mathlib.Core.Bool.{true}
 use mathlib.Core.Option.{Option, none, some}
 use mathlib.Core.List.{List}
-use Prim.Native.Nat.{ℕ}
-use Rattle.sets.specs.Stored.{number}
+use Prim.Native.Nat.{ℕ, _^_, _<_}
+use Rattle.sets.specs.Sets.{has}
+use Rattle.sets.specs.Stored.{width, number}
 use Rattle.games.specs.Walks.{Walk, Search, ifNone, unbeaten, desk, plan, decremental, oneShot}
 use Rattle.games.specs.Limit.{Answer, stopped, whole, cut}
 use Rattle.cases.specs.declared.Filled.{Filled}
@@ -69,7 +71,14 @@ module _ (b : List ℕ) (n t : ℕ) where
 abbrev pub Tells : {B : Type 0} → (Filled → Walk B) → ℕ → Filled → ℕ → Answer B → Type 0
 Tells walk l p looked a = (q : Filled) → Agree looked p q → a ≡ cut l (walk q)
 
--- a search for a plan tells its walk from p; from the others that agree, the same but for who fills the steps that were not looked at
+-- who is away is the same, as far as those met go
+pub record SameAway (met A B : ℕ) : Type 0 where
+  pub fits : B < 2 ^ width
+  pub same : (u : ℕ) → u < width → has met u ≡ true → has A u ≡ has B u
+
+-- a search for a plan tells its walk from p; from the others that agree, the same but for who fills the steps that were not looked at; and so with other
+-- people away, where that is the same of all who were met
 pub record PlanTold (b : List ℕ) (n A k l : ℕ) (p : Filled) (r : Planned) : Type 0 where
-  pub own : planOutcome l r ≡ cut l (plan (boardArena b n) A k p)
-  pub others : (q : Filled) → Agree (r .looked) p q → (e : Filled) × (planEnded l e (r .end) ≡ cut l (plan (boardArena b n) A k q))
+  pub own : (B : ℕ) → SameAway (number (r .met)) A B → planOutcome l r ≡ cut l (plan (boardArena b n) B k p)
+  pub others : (q : Filled) → Agree (r .looked) p q → (B : ℕ) → SameAway (number (r .met)) A B
+      → (e : Filled) × (planEnded l e (r .end) ≡ cut l (plan (boardArena b n) B k q))

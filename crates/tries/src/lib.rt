@@ -33,11 +33,13 @@ pub enum PlanEnd {
     Yes(u32),
 }
 
-// Where the end is yes, `plan` is the plan. `looked` are the filled steps whose people were looked at: who fills the others makes no difference.
+// Where the end is yes, `plan` is the plan. `looked` are the filled steps whose people were looked at: who fills the others makes no difference. `met` are
+// the people who were asked for: whether the others are away makes no difference.
 pub struct Planned {
     pub end: PlanEnd,
     pub plan: Filled,
     pub looked: u8,
+    pub met: People,
 }
 
 // A verdict with its trials; a no shows a set.
@@ -188,6 +190,13 @@ pub fn behind(line: Line, v: Person) -> Line
         tried: line.tried.after(v.0),
         fit: line.fit.after(v.0),
     }
+}
+
+// Those of the line up to a person.
+pub fn up_to(line: Line, v: Person) -> People
+    ensures { λ r. ⌜ number r ≡ difference width (number (line .tried)) (after width (number (line .tried)) (v .0)) ⌝ }
+{
+    line.tried.difference(line.tried.after(v.0))
 }
 
 // The line without some people.

@@ -2,12 +2,12 @@
 //! turns, three each and more where they are short, and the best turn counts. Each call reads, judges and lays out its file; answers
 //! and trials must be the same. No buffer is cleared or warmed before a turn but by the turns before it.
 //!
-//! A row is one question asked of the files of one workload. Rows with few trials say more about the call than about the walk: they are
-//! marked, and the mean goes without them. What a call costs stands in a table of its own: on the campfire, which takes a handful of
-//! trials, and on files at all limits of which no trial is allowed.
+//! A row is one question asked of the files of one workload. Rows whose questions take few trials each are marked, and the mean goes
+//! without them. What a call costs stands in a table of its own: on the campfire, which takes a handful of trials, and on files at all
+//! limits of which no trial is allowed.
 //!
 //! usage: bench                         all of it, timed
-//!        bench count W Q SIDE [LIMIT]  one turn of one question alone, for a tool that counts instructions: workload 0 to 8,
+//!        bench count W Q SIDE [LIMIT]  one turn of one question alone, for a tool that counts instructions: workload 0 to 9,
 //!                                      `campfire` or `limits`, question 0 to 6, side 0 (neither: only the files are made), 1 (library)
 //!                                      or 2 (plain). Prints the turn's trials and its calls. With LIMIT no call of a workload takes
 //!                                      more trials than that
@@ -120,7 +120,7 @@ fn turn(w: &Workload, question: usize, library: bool) -> Sum {
 
 const LIMIT: u32 = 1_000_000;
 
-/// A row with fewer trials is not in the mean.
+/// A row whose questions take fewer trials each, one with the other, is not in the mean.
 const FEW: u64 = 60_000;
 
 /// The least time in seconds that both sides' turns at one row take together.
@@ -144,6 +144,8 @@ fn workloads() -> Vec<Workload> {
     let scarce = Shape { people: 16, rules: 3, ..few };
     add("8 steps, 16 people, 3 of them for each step, 3 rules, t = 3", 3, (0..64).map(|_| make_scarce(&mut dice, scarce, 3)).collect());
     add("8 steps for different people, 7 people: no plan, t = 1", 1, vec![pigeonhole(true), pigeonhole(false)]);
+    let wide = Shape { people: 32, ..scarce };
+    add("8 steps, 32 people, 5 of them for each step, 3 rules, t = 4", 4, (0..12).map(|_| make_scarce(&mut dice, wide, 5)).collect());
     works
 }
 
@@ -202,7 +204,7 @@ fn rows(number: usize, w: &Workload, ratios: &mut Ratios) {
     for (q, question) in QUESTIONS.iter().enumerate() {
         let (sum, ours, theirs) = timed(w, q);
         let (trials, ratio) = (sum.trials as f64, ours / theirs);
-        let few = sum.trials < FEW;
+        let few = sum.trials < FEW * w.calls() as u64;
         if few {
             ratios.left_out += 1;
         } else {
@@ -257,7 +259,7 @@ fn main() {
         rows(i + 1, w, &mut ratios);
     }
     calls();
-    println!("few: fewer than {} trials; {} such rows are not counted", FEW, ratios.left_out);
+    println!("few: fewer than {} trials a question; {} such rows are not counted", FEW, ratios.left_out);
     println!("highest ratio of the {} rows that count: {:.2} ({})", ratios.rows, ratios.highest, ratios.name);
     println!("time of the library over time of plain Rust, geometric mean: {:.2}", (ratios.logs / f64::from(ratios.rows)).exp());
 }

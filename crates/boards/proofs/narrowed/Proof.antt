@@ -13,13 +13,13 @@ use Rattle.boards.specs.Board.{dueOn}
 use Rattle.boards.specs.Looked.{Agree}
 use Rattle.boards.specs.Over.{Narrowed}
 use Rattle.boards.proofs.Looked.{agree-same, agree-left}
-use Rattle.boards.proofs.Over.{over-less, narrowed-start, narrowed-step, narrowed-end, narrowed-none}
+use Rattle.boards.proofs.Over.{over-less, by-common, narrowed-start, narrowed-step, narrowed-end, narrowed-none}
 use Rattle.boards.proofs.Pairs.{dueTest, due-told, fits-due}
 use Rattle.boards.proofs.narrowed.Statement.{statement}
 use Rattle.boards.proofs.narrowed.Tie as tie
 use Rattle.boards.proofs.narrowed.Reads as reads
 use Rattle.boards.proofs.narrowed.Lts as lts
-use Rattle.boards.proofs.keepers.Reads as keepers-reads
+use Rattle.boards.proofs.kept_by.Reads as kept-by-reads
 use Rattle.boards.proofs.rule.Reads as rule-reads
 use Rattle.boards.proofs.steps_of.Reads as steps-of-reads
 use Rattle.cases.proofs.joined_steps.Reads as joined-steps-reads
@@ -30,7 +30,7 @@ use Rattle.sets.proofs.without.Reads as without-reads
 
 -- what the calls ask and give
 abbrev calls : lts.Claims
-calls = (lowest-in-reads.Asked, lowest-in-reads.Learnt, rule-reads.Asked, rule-reads.Learnt, steps-of-reads.Asked, steps-of-reads.Learnt, joined-steps-reads.Asked, joined-steps-reads.Learnt, keepers-reads.Asked, keepers-reads.Learnt, common-reads.Asked, common-reads.Learnt, is-none-reads.Asked, is-none-reads.Learnt, without-reads.Asked, without-reads.Learnt)
+calls = (lowest-in-reads.Asked, lowest-in-reads.Learnt, rule-reads.Asked, rule-reads.Learnt, steps-of-reads.Asked, steps-of-reads.Learnt, joined-steps-reads.Asked, joined-steps-reads.Learnt, kept-by-reads.Asked, kept-by-reads.Learnt, common-reads.Asked, common-reads.Learnt, is-none-reads.Asked, is-none-reads.Learnt, without-reads.Asked, without-reads.Learnt)
 
 abbrev Inv-loop : tie.InvT-loop
 Inv-loop board p s due kept₀ looked₀ left₀ i₀ kept looked left i =
@@ -55,8 +55,8 @@ steps-of-requires c κs = search needs
 joined-steps-requires : tie.Need-joined-steps-requires Inv-loop μ-loop
 joined-steps-requires c κs = search needs
 
-keepers-requires : tie.Need-keepers-requires Inv-loop μ-loop
-keepers-requires c κs = search needs
+kept-by-requires : tie.Need-kept-by-requires Inv-loop μ-loop
+kept-by-requires c κs = search needs
 
 common-requires : tie.Need-common-requires Inv-loop μ-loop
 common-requires c κs = search needs
@@ -82,17 +82,17 @@ Like c q = Agree (c .before .before .joined-steps .result) (start c .args .p) q
 was : (c : Asked) (q : Filled) → Like c q → Narrowed (dueTest (start c .args .board .now) q (start c .args .s .0)) (number (start c .args .among)) (start c .args .due) (turn c .before .loop .left) (turn c .before .loop .i) (turn c .before .loop .kept)
 was c q a = turn c .before .loop .inv q (agree-left _ _ (c .before .before .joined-steps .ensures) a)
 
-keeps : (c : Asked) (q : Filled) → Like c q → (u : ℕ) → u < width → has (number (c .before .keepers .result)) u ≡ dueTest (start c .args .board .now) q (start c .args .s .0) (turn c .before .loop .i) u
+keeps : (c : Asked) (q : Filled) → Like c q → (u : ℕ) → u < width → has (number (c .before .kept-by .result)) u ≡ dueTest (start c .args .board .now) q (start c .args .s .0) (turn c .before .loop .i) u
 keeps c q a =
     due-told _ a _ _ _ (turn c .before .loop .looked) _
     (c .before .before .joined-steps .ensures ∙ ap (joined mostSteps (turn c .before .loop .looked)) (c .before .before .before .steps-of .ensures))
-    (c .before .keepers .ensures) (c .before .before .before .before .rule .ensures)
+    (c .before .kept-by .ensures) (c .before .before .before .before .rule .ensures)
 
 returns : tie.Need-returns Inv-loop μ-loop
 returns c = λ q a.
     let at = c .before .before in
     fits-due _ a _ _ _ _ (start at .pre)
-    (narrowed-none _ (was at q a) (turn at .loop-test .taken) (at .before .keepers .result) (at .common .result) (keeps at q a) (at .common .ensures)
+    (narrowed-none _ (was at q a) (turn at .loop-test .taken) (at .common .result) (by-common _ _ _ _ (keeps at q a) (at .common .ensures))
     (eqb-true _ _ (sym (c .before .is-none .ensures) ∙ c .if1 .taken)))
 
 without-requires : tie.Need-without-requires Inv-loop μ-loop
@@ -109,8 +109,8 @@ loop-less c =
 loop-again : tie.Need-loop-again Inv-loop μ-loop
 loop-again c = λ q a.
     let at = c .before .before .before .before in
-    narrowed-step _ (was at q a) (turn at .loop-test .taken) _ _ (at .before .keepers .result) (at .common .result) (c .before .without .ensures) (c .lowest-in2 .ensures)
-    (keeps at q a) (at .common .ensures)
+    narrowed-step _ (was at q a) (turn at .loop-test .taken) _ _ (at .common .result) (c .before .without .ensures) (c .lowest-in2 .ensures)
+    (by-common _ _ _ _ (keeps at q a) (at .common .ensures))
 
 returns-2 : tie.Need-returns-2 Inv-loop μ-loop
 returns-2 c = λ q a. fits-due _ a _ _ _ _ (c .before .before .before .pre) (narrowed-end _ (c .before .loop .inv q a) (c .loop-test .left))
@@ -126,7 +126,7 @@ narrowed-spec =
     rule-requires
     steps-of-requires
     joined-steps-requires
-    keepers-requires
+    kept-by-requires
     common-requires
     is-none-requires
     returns

@@ -103,12 +103,12 @@ abbrev desk-turn-below : ℕ → In 1 desk-turn-kinds.ps
 desk-turn-below t = and 1 desk-turn-kinds.ps (falls 1 desk-turn-kinds.ps _<_ μ-desk-turn t) desk-turn.Pre
 
 abbrev away-from-Inv-loop : away-from-lts.InvT-loop
-away-from-Inv-loop board people t away p left limit step lined looked₀ gone₀ used₀ reckoned₀ looked gone used reckoned =
+away-from-Inv-loop board people t away p left limit step lined looked₀ gone₀ used₀ reckon-from₀ looked gone used reckoned =
     (q : Filled) → Agree looked p q
     → Sweep (beatsOn board people t (left - 1) q) (decremental (boardArena board people) t left (number away) q) people t (number away) limit (number gone) used
 
 abbrev away-from-μ-loop : away-from-lts.MeasureT-loop
-away-from-μ-loop board people t away p left limit step lined looked₀ gone₀ used₀ reckoned₀ looked gone used reckoned = 2 ^ people - number gone
+away-from-μ-loop board people t away p left limit step lined looked₀ gone₀ used₀ reckon-from₀ looked gone used reckoned = 2 ^ people - number gone
 
 abbrev away-choice-Inv-loop : away-choice-lts.InvT-loop
 away-choice-Inv-loop board people t away p left limit choices looked₀ gone₀ used₀ looked gone used =

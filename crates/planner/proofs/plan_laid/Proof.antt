@@ -1,4 +1,6 @@
 use mathlib.Core.Path.{ap, _∙_}
+use Rattle.sets.specs.Stored.{number}
+use Rattle.tries.proofs.Away.{same-nobody}
 use Rattle.tries.proofs.Turns.{nobody-shown}
 use Rattle.planner.specs.OnBoard.{planAnswerOn}
 use borrow.Author.Needs.{needs}
@@ -18,7 +20,9 @@ plan-said-requires : tie.Need-plan-said-requires
 plan-said-requires c κs = search needs
 
 returns : tie.Need-returns
-returns c = c .plan-said .ensures ∙ ap (planAnswerOn _) (rw (nobody-shown (c .before .before .before .none .ensures), c .before .before .start .ensures) at (c .before .plan-walk .ensures .own))
+returns c =
+    let nobody = same-nobody (number (c .before .plan-walk .result .met)) (nobody-shown (c .before .before .before .none .ensures)) in
+    c .plan-said .ensures ∙ ap (planAnswerOn _) (rw (c .before .before .start .ensures) at (c .before .plan-walk .ensures .own 0 nobody))
 
 pub plan-laid-spec : {M : Type 1} → statement M
 plan-laid-spec =

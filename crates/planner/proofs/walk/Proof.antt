@@ -18,7 +18,7 @@ use Rattle.cases.proofs.Filled.start.Reads as start-reads
 use Rattle.sets.proofs.People.none.Reads as none-reads
 use Rattle.losses.proofs.away_turn.Reads as away-turn-reads
 use Rattle.rounds.proofs.dynamic_walk.Reads as dynamic-walk-reads
-use Rattle.plans.proofs.static_walk.Reads as static-walk-reads
+use Rattle.statics.proofs.static_walk.Reads as static-walk-reads
 use Rattle.strikes.proofs.one_shot_walk.Reads as one-shot-walk-reads
 
 abbrev calls : lts.Claims

@@ -37,7 +37,7 @@ use Rattle.reckoning.proofs.+reckon.{statement}
 use Rattle.reckoning.proofs.+reckon.Tie.{close}
 
 abbrev μ-reckon : Measures 1 reckon-kinds.ps ℕ
-μ-reckon κs a = a .1 .1 .1 .1 .1 .0
+μ-reckon κs a = a .1 .1 .1 .1 .0
 
 abbrev reckon-at : ℕ → In 1 reckon-kinds.ps
 reckon-at t = and 1 reckon-kinds.ps (is 1 reckon-kinds.ps μ-reckon t) reckon.Pre
@@ -46,11 +46,11 @@ abbrev reckon-below : ℕ → In 1 reckon-kinds.ps
 reckon-below t = and 1 reckon-kinds.ps (falls 1 reckon-kinds.ps _<_ μ-reckon t) reckon.Pre
 
 abbrev reckon-Inv-loop : reckon-lts.InvT-loop
-reckon-Inv-loop board people grows p left looks step missed rest₀ away₀ sum₀ scale₀ more-looks₀ rest away sum scale more-looks =
-    Reckoning board people grows left p away₀ rest₀ missed rest away sum scale
+reckon-Inv-loop board people p left looks step missed rest₀ away₀ sum₀ scale₀ more-looks₀ rest away sum scale more-looks =
+    Reckoning board people left p away₀ rest₀ missed rest away sum scale
 
 abbrev reckon-μ-loop : reckon-lts.MeasureT-loop
-reckon-μ-loop board people grows p left looks step missed rest₀ away₀ sum₀ scale₀ more-looks₀ rest away sum scale more-looks = size width (number rest)
+reckon-μ-loop board people p left looks step missed rest₀ away₀ sum₀ scale₀ more-looks₀ rest away sum scale more-looks = size width (number rest)
 
 module _ (t : ℕ) where
   -- what the calls of reckon ask and give
@@ -120,7 +120,7 @@ module _ (t : ℕ) where
   abbrev follows : Told → Reckoned → Type 0
   follows c r =
       let s = start (line-of (first-of (placed-of c))) in
-      Says (s .args .board .now) (s .args .people) (s .args .grows) (placed-of c .before .raised .result) (s .args .left - 1) (placed-of c .placed .result) r
+      Says (s .args .board .now) (s .args .people) (placed-of c .before .raised .result) (s .args .left - 1) (placed-of c .placed .result) r
 
   says : (c : Told) → follows c (reckoned.Sum (more c) (c .before .more .given .0 .1 .0))
   says c = subst (follows c) (c .before .more .given .1) (c .before .before .before .reckon .ensures)
@@ -138,7 +138,7 @@ module _ (t : ℕ) where
 
   turned : (c : Added)
       → (let f = first-in c in let s = start (line-of f) in let l = loop-of f .loop in
-      Turned (s .args .board .now) (s .args .people) (s .args .grows) (s .args .left) (s .args .p) (s .args .sets) (line-of f .line-up .result .line .fit)
+      Turned (s .args .board .now) (s .args .people) (s .args .left) (s .args .p) (s .args .sets) (line-of f .line-up .result .line .fit)
       (loop-of f .before .difference .result) (l .rest) (l .away) (l .sum) (l .scale) (who f) (c .added .result))
   turned c =
       let q = placed-of (told-of c) in
@@ -167,7 +167,7 @@ module _ (t : ℕ) where
   weighed c = c .before .before .before .before .before .before
 
   reckon-returns : reckon-lts.Need-returns reckon-calls (reckon-at t) reckon.Post reckon-Inv-loop reckon-μ-loop
-  reckon-returns c = reckoned-none _ _ _ _ _ _ _ _ _ (c .if1 .taken)
+  reckon-returns c = reckoned-none _ _ _ _ _ _ _ _ (c .if1 .taken)
 
   reckon-returns-2 : reckon-lts.Need-returns-2 reckon-calls (reckon-at t) reckon.Post reckon-Inv-loop reckon-μ-loop
   reckon-returns-2 c = tt
@@ -203,7 +203,7 @@ module _ (t : ℕ) where
   reckon-loop-holds c =
       let at = lined c in
       let pre = start at .pre .1 in
-      reckoning-start _ _ _ _ _ _ (at .line-up .result .line .tried) _ _ (some-left at .if1 .left) (is-alone _ _ (alone at .before .several .ensures) (alone at .if4 .left)) (pre .0) (pre .1)
+      reckoning-start _ _ _ _ _ (at .line-up .result .line .tried) _ _ (some-left at .if1 .left) (is-alone _ _ (alone at .before .several .ensures) (alone at .if4 .left)) (pre .0) (pre .1)
       (at .line-up .ensures _ (agree-same _ _)) (c .difference .ensures)
 
   reckon-lowest-requires : reckon-lts.Need-lowest-requires reckon-calls (reckon-at t) reckon.Post reckon-Inv-loop reckon-μ-loop

@@ -2,21 +2,26 @@ use mathlib.Core.Path.{refl}
 use Prim.Native.Nat.{_+_, _-_, _*_, _^_, _<_}
 use native.Mathlib.Omega.{arith}
 use Rattle.sums.specs.Arrays.{entry}
-use Rattle.sums.proofs.Counts.{Joining, joining-start, joining-step, joining-end, joining-fits}
+use Rattle.sums.proofs.Counts.{Joining, joining-start, joining-step, joining-end, joining-nobody, joining-fits}
 use Rattle.sums.proofs.one_more.Statement.{statement}
 use Rattle.sums.proofs.one_more.Tie as tie
 
 abbrev Inv-loop : tie.InvT-loop
-Inv-loop w sums out₀ before₀ j₀ out before j = Joining (entry sums) w j out before
+Inv-loop room w sums out₀ before₀ j₀ out before j = Joining (entry sums) w j out before
 
 abbrev μ-loop : tie.MeasureT-loop
-μ-loop w sums out₀ before₀ j₀ out before j = 9 - j
+μ-loop room w sums out₀ before₀ j₀ out before j = 9 - j
+
+returns : tie.Need-returns Inv-loop μ-loop
+returns c = joining-nobody (c .before .args .t1) _ _ (c .before .pre .1) (c .if1 .taken)
 
 -- no sum is too large
 fits : (c : tie.In-loop Inv-loop μ-loop)
-    → let l = c .before .loop in let w = c .before .before .args .w in let sums = c .before .before .args .t1 in
+    → let l = c .before .loop in let w = c .before .before .before .args .w in let sums = c .before .before .before .args .t1 in
     (w * l .before < 2 ^ 63) × (entry sums (l .j) + w * l .before < 2 ^ 64)
-fits c = joining-fits (c .before .before .args .t1) _ (c .before .loop .inv) (c .loop-test .taken) (c .before .before .pre) refl (c .before .before .fits .w .fits)
+fits c =
+    let at = c .before .before .before in
+    joining-fits (at .args .t1) _ (c .before .loop .inv) (c .loop-test .taken) (at .pre .1) refl (at .fits .w .fits)
 
 loop-holds : tie.Need-loop-holds Inv-loop μ-loop
 loop-holds c = joining-start _ _ _ refl
@@ -49,10 +54,10 @@ loop-less : tie.Need-loop-less Inv-loop μ-loop
 loop-less c = omega arith
 
 loop-again : tie.Need-loop-again Inv-loop μ-loop
-loop-again c = joining-step _ _ (c .before .before .loop .inv) (c .before .loop-test .taken) refl (c .capped .ensures)
+loop-again c = joining-step _ _ (c .before .before .loop .inv) (omega (arith, c .before .loop-test .taken, c .before .before .before .before .pre .0)) refl (c .capped .ensures)
 
-returns : tie.Need-returns Inv-loop μ-loop
-returns c = joining-end (c .before .loop .inv) (c .loop-test .left)
+returns-2 : tie.Need-returns-2 Inv-loop μ-loop
+returns-2 c = joining-end (c .before .loop .inv) (omega (arith, c .loop-test .left))
 
 pub one-more-spec : {M : Type 1} → statement M
 one-more-spec =
@@ -60,6 +65,7 @@ one-more-spec =
     (tie.spec
     Inv-loop
     μ-loop
+    returns
     loop-holds
     mul-here
     array-read-here
@@ -71,4 +77,4 @@ one-more-spec =
     add-j
     loop-less
     loop-again
-    returns)
+    returns-2)

@@ -1,6 +1,6 @@
 use Rattle.boards.proofs.Looked.{agree-same}
-use Rattle.plans.proofs.static_walk.Statement.{statement}
-use Rattle.plans.proofs.static_walk.Tie as tie
+use Rattle.statics.proofs.static_walk.Statement.{statement}
+use Rattle.statics.proofs.static_walk.Tie as tie
 
 static-from-requires : tie.Need-static-from-requires
 static-from-requires c κs = c .pre

@@ -1,0 +1,2 @@
+-- What the static walk's proof uses.
+pub mod Leaping
