@@ -1,5 +1,5 @@
-/* A plugin of qemu-user that counts the instructions that a program runs, but for repeated string instructions, and prints them at its end. Built and used by `run count` on
- * machines that emulate x86-64, where a time says little. The declarations are those of qemu's plugin interface, version 1. */
+/* A plugin of qemu-user that counts the instructions that a program runs, but for repeated string instructions, and prints them at its
+ * end. Built and used by `run count` on machines that emulate x86-64, where a time says little. The declarations are those of qemu's plugin interface, version 1. */
 #include <stddef.h>
 #include <stdint.h>
 #include <stdio.h>
