@@ -21,8 +21,8 @@ use Rattle.boards.specs.Arena.{boardArena}
 use Rattle.sums.specs.declared.Absences.{Absences}
 use Rattle.sums.specs.Sums.{onlyBelow, Summed}
 use Rattle.sums.specs.Arrays.{weightOf, OnceBelow}
+use Rattle.sums.proofs.Joins.{size-wide}
 use Rattle.sums.proofs.Summed.{summed-weights}
-use Rattle.reckoning.proofs.Answers.{away-size}
 use Rattle.leaps.specs.Leaps.{Leapt, Free}
 
 -- ---- nobody below
@@ -115,7 +115,7 @@ module _ {n most h room : ℕ} {sets : Absences} {set : People} (few : n ≤ wid
       }
     where
       same : size n (number set) ≡ size width (number set)
-      same = away-size n set few fits
+      same = size-wide n (number set) few fits
 
       left : room ≡ t - size n (number set)
       left = omega (arith, r, c, same)

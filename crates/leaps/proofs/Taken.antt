@@ -29,11 +29,10 @@ use Rattle.sums.specs.declared.Absences.{Absences}
 use Rattle.sums.specs.Sums.{but, onlyBelow, Reached, howMany, capped, Summed}
 use Rattle.sums.specs.Arrays.{entry, weightOf, staying, JoinedBy}
 use Rattle.sums.proofs.Sums.{over-nobody}
-use Rattle.sums.proofs.Joins.{joined-lt}
+use Rattle.sums.proofs.Joins.{joined-lt, with-joined}
 use Rattle.sums.proofs.Splits.{but-self, but-other, reached-full}
 use Rattle.sums.proofs.Counts.{staying-weights}
 use Rattle.sums.proofs.Completed.{summed-alike, reached-apart, Completing, completing-start, completing-next, completing-never, completing-end}
-use Rattle.reckoning.proofs.Reckons.{with-joined}
 use Rattle.leaps.proofs.Bounds.{below-one, below-known}
 
 -- ---- a walk that found a plan

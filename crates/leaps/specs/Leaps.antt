@@ -35,7 +35,7 @@ abbrev pub AllPlanned : List ℕ → ℕ → Absences → ℕ → Filled → Tal
 AllPlanned b n sets k p (tally.Sum x i) = Summed (λ S. ifNone S (plan (boardArena b n) S k p)) n (weightOf sets) (sets .room) (number (sets .held)) x
 AllPlanned b n sets k p (tally.Lost i) = Unit {0}
 
--- a bound of at most n: where it is more than 1, s has nobody below it or at it
+-- a bound of at most n: where it is more than 0, s has nobody below it or at it
 pub record Free (n s h : ℕ) : Type 0 where
   pub within : h ≤ n
-  pub nobody : 1 < h → (u : ℕ) → u ≤ h → has s u ≡ false
+  pub nobody : 0 < h → (u : ℕ) → u ≤ h → has s u ≡ false

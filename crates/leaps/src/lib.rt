@@ -97,14 +97,14 @@ fn most_of(met: People, below: u8) -> bool {
     (below as u32) * 3 < met.common(People::everybody(below)).size() * 4
 }
 
-// The highest bound of a leap: nobody of the set is at it or below it, so that the set with the person at the bound comes next. 0 where it is too low.
+// The highest bound of a leap: nobody of the set is at it or below it, so that the set with the person at the bound comes next. 0 where person 0 is in it.
 fn free_below(people: u8, set: People) -> u8
     requires { ⌜ (people ≤ 32) × (number set < 2 ^ people) ⌝ }
     ensures { λ r. ⌜ Free people (number set) r ⌝ }
 {
     match set.lowest() {
         Lowest::Nobody => people,
-        Lowest::Person(v) => if v < 3 { 0 } else { v - 1 },
+        Lowest::Person(v) => if v == 0 { 0 } else { v - 1 },
     }
 }
 

@@ -19,9 +19,7 @@ use cases::joined_steps;
 use lines::Cursor;
 use lines::next_move;
 use plans::without_plan;
-use reckoning::NEVER;
 use reckoning::Reckoned;
-use reckoning::WORTH;
 use reckoning::away_trials;
 use reckoning::tell;
 use sets::Next;
@@ -53,6 +51,12 @@ ghost use Rattle.boards.specs.Arena.{boardArena};
 ghost use Rattle.tries.specs.Outcomes.{verdictOutcome, turnOutcome, beatsOn, Tells};
 ghost use Rattle.tries.specs.Trying.{stepOn, Alone, LinedUp};
 ghost use Rattle.tries.specs.Choices.{LinesUp};
+
+// A turn of fewer trials ends sooner than they are reckoned.
+const WORTH: u32 = 64;
+
+// No turn but one at the highest limit has so many.
+const NEVER: u32 = 4294967295;
 
 // A turn of the away side: it goes over the sets of at most t people that contain those away, and stops at the first that beats the desk. The position
 // is lined up once for all of them. Where the trials of all sets can be reckoned, that is the answer; it may hang on who fills any step.

@@ -3,14 +3,11 @@ use mathlib.Core.Path.{_≡_, refl, sym, ap, ap₂, _∙_, subst}
 use mathlib.Core.Option.{none}
 use mathlib.Core.List.{List}
 use Prim.Native.Nat.{ℕ, zero, suc, _+_, _-_, _^_, _≤_, _<_}
-use native.Mathlib.Nat.{lt-of-lt-of-le}
 use native.Mathlib.Omega.{arith}
 use lib.ListN.{getD-replicate}
-use lib.Pow.{pow-mono}
 use Rattle.sets.specs.Sets.{size}
 use Rattle.sets.specs.Stored.{width, number}
 use Rattle.sets.specs.declared.People.{People}
-use Rattle.sets.proofs.Counting.{size-width}
 use Rattle.games.specs.Walks.{Search, decremental}
 use Rattle.games.specs.Limit.{stopped, whole, cut}
 use Rattle.games.proofs.Limits.{cut-past}
@@ -25,6 +22,7 @@ use Rattle.games.proofs.Cuts.{ends}
 use Rattle.sums.specs.declared.Absences.{Absences}
 use Rattle.sums.specs.Sums.{capped, Summed, Comes}
 use Rattle.sums.specs.Arrays.{weightOf, once}
+use Rattle.sums.proofs.Joins.{size-wide}
 use Rattle.sums.proofs.Sums.{over-nothing}
 use Rattle.sums.proofs.Summed.{summed-weights, summed-seek}
 use Rattle.reckoning.specs.Reckoned.{turnOn, Says, Tells}
@@ -40,9 +38,6 @@ once-small held room left sets e h u l = omega (arith, ap (λ (a : Absences). we
 
 pub once-fits : (n : ℕ) (held : People) (room : ℕ) (sets : Absences) → sets ≡ once held room → number held < 2 ^ n → number (sets .held) < 2 ^ n
 once-fits n held room sets e h = subst (λ (a : Absences). number (a .held) < 2 ^ n) (sym e) h
-
-pub away-size : (n : ℕ) (away : People) → n ≤ width → number away < 2 ^ n → size n (number away) ≡ size width (number away)
-away-size n away h l = size-width n width (number away) l (lt-of-lt-of-le l (pow-mono h))
 
 module _ (b : List ℕ) (n k : ℕ) (p : Filled) (few : n ≤ width) where
   -- each set is counted once
@@ -67,7 +62,7 @@ module _ (b : List ℕ) (n k : ℕ) (p : Filled) (few : n ≤ width) where
       (decremental-comes (t - z) away x l (subst (λ (a : Absences). Summed (turnOn b n (a .room + size n (number (a .held))) k p) n (weightOf a) (a .room) (number (a .held)) x) e s))
     where
       same : t - z + size n (number away) ≡ t
-      same = omega (arith, q, h, away-size n away few l)
+      same = omega (arith, q, h, size-wide n (number away) few l)
 
 -- ---- the verdict
 

@@ -4,32 +4,25 @@ use mathlib.Core.Option.{none, some}
 use mathlib.Core.Bool.{Bool, true, false, not, _&&_, _||_, true≢false}
 use mathlib.Core.List.{List}
 use Prim.Native.Nat.{ℕ, suc, _+_, _*_, _^_, _≤_, _<_}
-use native.Mathlib.Nat.{lt-of-lt-of-le}
 use native.Mathlib.Omega.{arith}
 use borrow.Author.Tests.{eqb-true, not-true}
 use lib.Dec.{eqb}
-use lib.Pow.{pow-mono}
 use Rattle.sets.specs.Sets.{has, count, size, lowest, with, without}
 use Rattle.games.specs.Walks.{Search, decremental}
 use Rattle.sets.specs.Stored.{width}
 use Rattle.sets.proofs.Lists.{and-true}
-use Rattle.sets.proofs.Counting.{has-setOf, is-setOf}
+use Rattle.sets.proofs.Counting.{has-setOf}
 use Rattle.sets.proofs.Members.{lowest-some, lowest-least}
 use Rattle.cases.specs.declared.Filled.{Filled}
 use Rattle.boards.specs.Arena.{putOn, boardArena}
 use Rattle.tries.specs.Trying.{stepOn, Alone, InLine}
 use Rattle.sums.specs.Sums.{but, Reached, howMany, howManyMiss, capped, Summed}
-use Rattle.sums.proofs.Joins.{joined-has, joined-lt, joined-size}
+use Rattle.sums.proofs.Joins.{joined-has, joined-lt, joined-size, with-joined}
 use Rattle.sums.proofs.Splits.{but-self, reached-never}
 use Rattle.sums.proofs.Summed.{Summing, summing-start, summing-next, summing-full, summing-never, summed-first}
 use Rattle.reckoning.specs.Reckoned.{turnOn}
 use Rattle.reckoning.proofs.Desk.{tried-listed, fit-listed}
 use Rattle.reckoning.proofs.Turns.{turn-first}
-
--- with person v, as a number
-pub with-joined : (n A v : ℕ) → n ≤ width → v < n → A < 2 ^ n → has A v ≡ false → with width A v ≡ A + 2 ^ v
-with-joined n A v h l k e =
-    sym (is-setOf (λ w. has A w || eqb w v) width (A + 2 ^ v) (lt-of-lt-of-le (joined-lt n v A l k e) (pow-mono h)) (λ u b. joined-has n v A l k e u))
 
 -- at a position, with A away: T are in line, F of them fit, and M do not
 pub record Lined (b : List ℕ) (n A : ℕ) (p : Filled) (T F M : ℕ) : Type 0 where

@@ -39,12 +39,6 @@ const LOOKS: u32 = 1000;
 // How many trials of a walk take about as long as one look.
 const LOOK_TRIALS: u32 = 32;
 
-// A walk of fewer trials ends sooner than they are reckoned.
-pub const WORTH: u32 = 64;
-
-// No walk but one at the highest limit has so many.
-pub const NEVER: u32 = 4294967295;
-
 // The sum of the trials, as it is told, with the looks that are left; or nothing.
 pub enum Reckoned {
     Sum(u64, u32),

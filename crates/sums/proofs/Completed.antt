@@ -1,20 +1,16 @@
 -- Sums in parts: a search that comes to the same for every set, and the sets that people join one after the other.
 use mathlib.Core.Path.{_≡_, refl, sym, ap, _∙_}
-use mathlib.Core.Logic.{_⊎_, inl, inr}
 use mathlib.Core.Bool.{Bool, true, false}
 use mathlib.Core.Option.{none}
-use Prim.Native.Nat.{ℕ, zero, suc, _+_, _*_, _^_, _≤_, _<_}
-use native.Mathlib.Nat.{mul-one, one-mul, zero-mul, le-refl}
+use Prim.Native.Nat.{ℕ, suc, _+_, _*_, _^_, _≤_, _<_}
+use native.Mathlib.Nat.{mul-one, one-mul, le-refl}
 use native.Mathlib.Decide.{ℕ-discrete}
 use native.Mathlib.Omega.{arith}
-use borrow.Author.Tests.{lt-ltb, le-ltb}
-use lib.Dec.{ltb}
-use Rattle.sets.specs.Sets.{has, bit}
-use Rattle.sets.proofs.Lists.{lt-or-eq}
+use Rattle.sets.specs.Sets.{has}
 use Rattle.games.specs.Walks.{Search}
 use Rattle.sums.specs.Sums.{over, but, Reached, howMany, most, capped, Summed}
 use Rattle.sums.proofs.Caps.{capped-times}
-use Rattle.sums.proofs.Sums.{over-nobody, over-there, over-joins, over-weights, over-cong, over-times}
+use Rattle.sums.proofs.Sums.{over-cong, over-times}
 use Rattle.sums.proofs.Splits.{but-self, but-other}
 use Rattle.sums.proofs.Summed.{summed-weights, summed-split}
 

@@ -1,5 +1,7 @@
 use native.Mathlib.Omega.{arith}
-use Rattle.reckoning.proofs.Answers.{once-small, once-fits, away-size, away-tells}
+use Rattle.sets.specs.Stored.{number}
+use Rattle.sums.proofs.Joins.{size-wide}
+use Rattle.reckoning.proofs.Answers.{once-small, once-fits, away-tells}
 use borrow.Author.Needs.{needs}
 use Rattle.reckoning.proofs.away_trials.Statement.{statement}
 use Rattle.reckoning.proofs.away_trials.Tie as tie
@@ -13,7 +15,7 @@ size-requires c κs = search needs
 sub-once : tie.Need-sub-once
 sub-once c =
     let pre = c .before .before .pre in
-    omega (arith, away-size _ (c .before .before .args .away) (pre .0) (pre .1), c .size .ensures, pre .2)
+    omega (arith, size-wide _ (number (c .before .before .args .away)) (pre .0) (pre .1), c .size .ensures, pre .2)
 
 once-requires : tie.Need-once-requires
 once-requires c κs = search needs

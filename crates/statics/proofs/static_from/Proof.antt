@@ -21,8 +21,7 @@ use Rattle.tries.proofs.Sweeps.{Sweep, sweep-start, sweep-known, sweep-limit, s
 use Rattle.tries.proofs.Away.{same-self}
 use Rattle.tries.proofs.Turns.{nobody-shown, static-full, lacks-limit, lacks-none, lacks-some, next-some, next-none}
 use Rattle.tries.proofs.Agreeing.{agree-everywhere}
-use Rattle.sums.proofs.Joins.{joined-lt}
-use Rattle.reckoning.proofs.Reckons.{with-joined}
+use Rattle.sums.proofs.Joins.{joined-lt, with-joined}
 use Rattle.leaps.specs.Leaps.{Leapt, Leaps}
 use Rattle.statics.proofs.Leaping.{leap-limit, leap-on, leap-end}
 use Rattle.statics.proofs.static_from.Statement.{statement}
