@@ -35,7 +35,7 @@ build() { # WHAT-IT-IS FILE RT-WORDS..
     if [ -f "$made" ]; then
         echo "$(basename "$0"): proving what has changed, and building $what" >&2
     else
-        echo "$(basename "$0"): proving and building $what. The first time this takes about 3 minutes." >&2
+        echo "$(basename "$0"): proving and building $what. The first time this takes some minutes, up to ten." >&2
     fi
     { mkdir -p "$top/target" && : >"$stamp.new"; } 2>/dev/null || stop "nothing can be written to $top/target"
     # where rt is root and cannot run a program as nobody, the program is proved and built all the same

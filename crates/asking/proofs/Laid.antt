@@ -15,9 +15,9 @@ use Rattle.refusals.specs.CaseChecks.{badRule, ruleEntry, judgedCase}
 use Rattle.refusals.specs.Table.{BadRule, badForm, badRelation, badFirst}
 use Rattle.refusals.proofs.Conditions.{bad-rule}
 use Rattle.refusals.proofs.Cases.{good-case}
+use Rattle.pieces.specs.declared.Order.the-variants as order
 use Rattle.laying.specs.Laid.{laidOut}
 use Rattle.laying.specs.Ready.{Ready, ReadyRule}
-use Rattle.laying.specs.declared.Order.the-variants as order
 use Rattle.meaning.proofs.Means.{allowed-means}
 use Rattle.meaning.proofs.OnBoard.{fits-next}
 use Rattle.asking.specs.Asking.{positionCheck}

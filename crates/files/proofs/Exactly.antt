@@ -12,7 +12,8 @@ use Rattle.refusals.proofs.Conditions.{either-is, below-is, differs-is, too-man
 use Rattle.refusals.proofs.Cases.{entries-tell}
 use Rattle.words.specs.Word.{word}
 use Rattle.layout.specs.Layout.{countsOf, caseOf}
-use Rattle.files.specs.Checks.{misplaced, headChecks, fileChecks, judgedFile}
+use Rattle.headers.specs.Checks.{misplaced, headChecks}
+use Rattle.files.specs.Checks.{fileChecks, judgedFile}
 use Rattle.files.specs.FileTable.{Misplaced, peopleElsewhere, stepsElsewhere, tablesElsewhere, rulesElsewhere, otherTotal, fileTable}
 
 -- one of the five numbers is another

@@ -14,11 +14,13 @@ use Rattle.refusals.specs.Offsets.{totalOf}
 use Rattle.refusals.specs.CaseChecks.{judgedCase}
 use Rattle.layout.specs.declared.Part.{Part}
 use Rattle.layout.specs.Layout.{countsOf, caseOf, caseAt, startOf, endOf}
+use Rattle.headers.specs.Checks.{headChecks}
+use Rattle.headers.proofs.Right.{header-right, header-long}
 use Rattle.files.specs.declared.FileRead.{FileRead}
-use Rattle.files.specs.Checks.{headChecks, judgedFile}
+use Rattle.files.specs.Checks.{judgedFile}
 use Rattle.files.specs.Reading.{readOf, refusedRead}
 use Rattle.files.specs.Parts.{Slice, between, nothingOf, partOf}
-use Rattle.files.proofs.Headers.{header-right, header-long, wrong-header, right-header, good-header}
+use Rattle.files.proofs.Headers.{wrong-header, right-header, good-header}
 use Rattle.files.proofs.Nothing.{read-refused, read-good, part-refused, part-good}
 
 module _ (f : List ℕ) where

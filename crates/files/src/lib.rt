@@ -2,11 +2,11 @@
 //
 // Reading is total: past the end of a part every entry is zero. So a file with a right header is read first, and 7 to 11 are judged on the case that
 // was read, by the one judge that cases in memory have.
-mod entries;
-mod header;
-
 use cases::Case;
 use cases::Counts;
+use entries::case_at;
+use headers::counts;
+use headers::judge_header;
 use judging::judge_case;
 use layout::Part;
 use layout::end;
@@ -20,9 +20,6 @@ ghost use Rattle.layout.specs.Layout.{startOf, endOf};
 ghost use Rattle.files.specs.Checks.{judgedFile};
 ghost use Rattle.files.specs.Reading.{readOf, refusedRead};
 ghost use Rattle.files.specs.Parts.{seen, between, nothingOf, partOf};
-use entries::case_at;
-use header::counts;
-use header::judge_header;
 
 // What reading a file gives: how it is judged, and the case that it holds, which is the empty case where it is refused.
 pub struct FileRead {

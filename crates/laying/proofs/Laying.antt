@@ -26,16 +26,18 @@ use Rattle.cases.specs.Rules.{related}
 use Rattle.cases.specs.Plans.{may}
 use Rattle.cases.proofs.Rounds.{may-known, may-step, entry-at, entry-past}
 use Rattle.boards.specs.Board.{relations, halfSteps, halves, columnsFrom, loopsFrom, allowedFrom, namedFrom, rulesFrom, readyFrom, completeFrom, places, rowPlace, halfStep}
+use Rattle.pieces.specs.declared.Order.{Order}
+use Rattle.pieces.specs.declared.Order.the-variants as order
+use Rattle.pieces.specs.Pieces.{packed, relatedIn, rowIn, gatheredIn, columnIn, havingIn, loopsIn, allowedIn, precedingIn, namedBy, precededBy, waitsIn, freeIn, halfIn, laidFrom}
+use Rattle.pieces.proofs.Rows.{eqb-turned}
+use Rattle.pieces.proofs.Writing.{blank}
 use Rattle.laying.specs.declared.Sizes.{Sizes}
-use Rattle.laying.specs.declared.Order.{Order}
-use Rattle.laying.specs.declared.Order.the-variants as order
-use Rattle.laying.specs.Laid.{packed, names, pairOf, rowOf, columnOf, loopsOf, allowedOf, namedOf, preceding, packedOf, readyOf, completeOf, laidOut}
+use Rattle.laying.specs.Laid.{names, pairOf, rowOf, columnOf, loopsOf, allowedOf, namedOf, preceding, packedOf, readyOf, completeOf, laidOut}
 use Rattle.laying.specs.Ready.{Bounded}
-use Rattle.laying.specs.Parts.{relatedIn, rowIn, gatheredIn, columnIn, havingIn, loopsIn, allowedIn, precedingIn, namedBy, precededBy, waitsIn, freeIn, halfIn, laidFrom, laidBlocks, Front, Sized}
+use Rattle.laying.specs.Putting.{laidBlocks, Front, Sized}
 use Rattle.laying.proofs.Places.{row-at, column-at, loops-at, allowed-at, named-at, rule-at, ready-at, complete-at, laid-length}
-use Rattle.laying.proofs.Rows.{eqb-turned}
-use Rattle.laying.proofs.Preceding.{words-end}
-use Rattle.laying.proofs.Writing.{blank, front-start, front-from, front-blocks, front-end}
+use Rattle.laying.proofs.TableWords.{words-end}
+use Rattle.laying.proofs.Building.{front-start, front-from, front-blocks, front-end}
 
 -- what is 0 unless a test holds
 unless : (d : Bool) (x y : ℕ) → (d ≡ true → x ≡ y) → (d ≡ false → x ≡ 0) → x ≡ pick d y 0

@@ -1,43 +1,20 @@
 -- What is read off the rows of a board stays while what stands behind the rows is put.
-use mathlib.Core.Path.{_≡_, refl, sym, ap, ap₂, _∙_}
-use mathlib.Core.Bool.{Bool}
+use mathlib.Core.Path.{_≡_, refl, ap, ap₂, _∙_}
 use mathlib.Core.List.{List}
-use Prim.Native.Nat.{ℕ, zero, suc, _-_, _≤_, _<_}
+use Prim.Native.Nat.{ℕ, zero, suc, _≤_, _<_}
 use native.Mathlib.Omega.{arith}
-use borrow.Author.Tests.{lt-ltb, le-ltb}
 use lib.Dec.{ltb}
 use lib.ListN.{getD}
 use Rattle.sets.specs.Lists.{pick}
-use Rattle.sets.specs.Sets.{has, everybody}
+use Rattle.sets.specs.Sets.{has}
 use Rattle.sets.specs.Stored.{width, setAt}
 use Rattle.sets.proofs.Counting.{setOf-ext}
 use Rattle.cases.specs.Case.{mostPeople}
 use Rattle.boards.specs.Board.{relations, columnsFrom, loopsFrom, rowPlace}
-use Rattle.laying.specs.Parts.{gatheredIn, columnIn, havingIn, loopsIn, laidFrom, Put, PutBlocks}
-use Rattle.laying.proofs.Writing.{from-below, from-cong, blocks-below}
-
--- a column is a row, or is gathered
-module _ (b : List ℕ) (k v r : ℕ) where
-  pub column-row : k < 2 → r ≡ setAt b (rowPlace k v) → r ≡ columnIn b k v
-  unfolding columnIn
-  column-row h e = e ∙ sym (ap (λ (d : Bool). pick d (setAt b (rowPlace k v)) (gatheredIn b k v)) (lt-ltb k 2 h))
-
-  pub column-gathered : 2 ≤ k → r ≡ gatheredIn b k v → r ≡ columnIn b k v
-  unfolding columnIn
-  column-gathered h e = e ∙ sym (ap (λ (d : Bool). pick d (setAt b (rowPlace k v)) (gatheredIn b k v)) (le-ltb k 2 h))
-
--- the people who are in a relation with themselves, relation by relation
-module _ (b : List ℕ) (n k r : ℕ) where
-  pub loops-same : k ≡ 0 → r ≡ everybody width n → r ≡ loopsIn b n k
-  loops-same q e = e ∙ ap (loopsIn b n) (sym q)
-
-  pub loops-different : k ≡ 1 → r ≡ 0 → r ≡ loopsIn b n k
-  loops-different q e = e ∙ ap (loopsIn b n) (sym q)
-
-  pub loops-table : (k ≡ 0 → ⊥) → (k ≡ 1 → ⊥) → r ≡ havingIn b k → r ≡ loopsIn b n k
-  loops-table a d e =
-      let at : suc (suc (k - 2)) ≡ k = omega arith in
-      e ∙ ap (havingIn b) (sym at) ∙ ap (loopsIn b n) at
+use Rattle.pieces.specs.Pieces.{gatheredIn, columnIn, havingIn, loopsIn, laidFrom, Put}
+use Rattle.pieces.proofs.Writing.{from-below, from-cong}
+use Rattle.laying.specs.Putting.{PutBlocks}
+use Rattle.laying.proofs.Building.{blocks-below}
 
 -- two boards with the same rows
 abbrev SameRows : List ℕ → List ℕ → Type 0

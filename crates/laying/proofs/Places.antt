@@ -11,7 +11,7 @@ use Rattle.words.proofs.Parts.{length-table, getD-table}
 use Rattle.cases.specs.declared.Case.{Case}
 use Rattle.cases.specs.Case.{mostPeople, mostSteps, mostRules}
 use Rattle.boards.specs.Board.{relations, rows, halves, columnsFrom, loopsFrom, allowedFrom, namedFrom, rulesFrom, readyFrom, completeFrom, places, rowPlace, columnPlace, loopsPlace, allowedPlace, namedPlace, rulePlace}
-use Rattle.laying.specs.declared.Order.{Order}
+use Rattle.pieces.specs.declared.Order.{Order}
 use Rattle.laying.specs.Laid.{rowOf, columnOf, loopsOf, allowedOf, namedOf, packedOf, readyOf, completeOf, laidOut}
 
 -- relation by relation, in each one entry for every person

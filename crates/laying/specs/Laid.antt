@@ -1,7 +1,7 @@
 -- A case laid out as a board: what stands at each place.
 use mathlib.Core.Bool.{Bool, not, _&&_, _||_}
 use mathlib.Core.List.{List, _++_}
-use Prim.Native.Nat.{ℕ, _+_, _*_, _/_, _%_}
+use Prim.Native.Nat.{ℕ, _+_, _/_, _%_}
 use lib.Dec.{eqb, ltb}
 use lib.ListN.{getD, replicate}
 use Rattle.sets.specs.Lists.{upto, all}
@@ -14,16 +14,13 @@ use Rattle.cases.specs.Case.{mostPeople, mostSteps, mostRules, people, steps, t
 use Rattle.cases.specs.Rules.{related}
 use Rattle.cases.specs.Plans.{may}
 use Rattle.boards.specs.Board.{relations, rows, halfSteps, halves, places, halfStep}
-use Rattle.laying.specs.declared.Order.{Order}
-use Rattle.laying.specs.declared.Order.the-variants as order
+use Rattle.pieces.specs.declared.Order.{Order}
+use Rattle.pieces.specs.declared.Order.the-variants as order
+use Rattle.pieces.specs.Pieces.{packed}
 
 -- a board with nothing on it
 abbrev pub blankBoard : List ℕ
 blankBoard = replicate places 0
-
--- a rule as one number: form, relation, step s and set X, one byte each from the lowest up
-unfoldable pub packed : Rule → ℕ
-packed r = r .form + (r .relation * 256 + (r .step .0 * 65536 + r .group * 16777216))
 
 -- step x is one of the rule's steps
 unfoldable pub names : Rule → ℕ → Bool

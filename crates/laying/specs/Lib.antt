@@ -1,4 +1,4 @@
--- A case laid out as a board, and what a case must give for it; then the parts of a board, from what the functions here are lent.
+-- A case laid out as a board, and what a case must give for it; then how the parts are put onto a board, one after the other.
 pub mod Laid
 pub mod Ready
-pub mod Parts
+pub mod Putting

@@ -23,7 +23,7 @@ use Rattle.cases.proofs.Rules.{hold-fewer}
 use Rattle.cases.proofs.Rounds.{may-known, may-step}
 use Rattle.cases.proofs.Fillings.{placed-filled, placed-who, start-empty}
 use Rattle.boards.specs.Arena.{putOn}
-use Rattle.laying.proofs.Tests.{same}
+use Rattle.pieces.proofs.Tests.{same}
 use Rattle.laying.specs.Ready.{Ready}
 use Rattle.meaning.specs.Sound.{Formed, Sound}
 use Rattle.meaning.specs.Listed.{fillFrom, filledBy}

@@ -30,10 +30,11 @@ use Rattle.cases.proofs.Rounds.{may-known, entry-at}
 use Rattle.boards.specs.Board.{relations, readyFrom, completeFrom, rowPlace, unpacked, allowedOn, namedOn, bothOn, completeOn, ruleOn, readyOn, fullOn, dueOn, pairOn, keptOn, fitsOn}
 use Rattle.boards.proofs.Halves.{steps-low, both-told}
 use Rattle.boards.proofs.Pairs.{pair-as}
-use Rattle.laying.specs.declared.Order.{Order}
-use Rattle.laying.specs.Laid.{packed, names, pairOf, rowOf, columnOf, loopsOf, allowedOf, namedOf, preceding, packedOf, readyOf, completeOf, laidOut}
+use Rattle.pieces.specs.declared.Order.{Order}
+use Rattle.pieces.specs.Pieces.{packed}
+use Rattle.pieces.proofs.Tests.{same, all-keep, all-map}
+use Rattle.laying.specs.Laid.{names, pairOf, rowOf, columnOf, loopsOf, allowedOf, namedOf, preceding, packedOf, readyOf, completeOf, laidOut}
 use Rattle.laying.specs.Ready.{ReadyRule, Ready}
-use Rattle.laying.proofs.Tests.{same, all-keep, all-map}
 use Rattle.meaning.specs.Sound.{Sound}
 use Rattle.laying.proofs.Places.{row-at, column-at, loops-at, allowed-at, named-at, rule-at, ready-at, complete-at}
 

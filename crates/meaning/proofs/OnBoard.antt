@@ -26,8 +26,8 @@ use Rattle.cases.specs.Chain.{offers, place, chain, personOf, planOf, staticOf,
 use Rattle.cases.proofs.Rounds.{may-step, offered-in, start-valid, snoc-each}
 use Rattle.boards.specs.Board.{allowedOn, readyOn, fitsOn}
 use Rattle.boards.specs.Arena.{Done, by, putOn, boardArena}
-use Rattle.laying.proofs.Tests.{same}
-use Rattle.laying.specs.declared.Order.the-variants as order
+use Rattle.pieces.specs.declared.Order.the-variants as order
+use Rattle.pieces.proofs.Tests.{same}
 use Rattle.laying.specs.Laid.{laidOut}
 use Rattle.laying.specs.Ready.{Ready}
 use Rattle.meaning.specs.Listed.{fillFrom, filledBy}

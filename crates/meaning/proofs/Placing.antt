@@ -25,8 +25,8 @@ use Rattle.cases.specs.Filled.{startFilled, whoIn, placedAt, filledWith, whoWit
 use Rattle.cases.proofs.Rules.{hold-fewer}
 use Rattle.cases.proofs.Fillings.{placed-there, placed-filled, placed-who}
 use Rattle.boards.specs.Board.{readyOn, fitsOn}
-use Rattle.laying.specs.declared.Order.{Order}
-use Rattle.laying.specs.declared.Order.the-variants as order
+use Rattle.pieces.specs.declared.Order.{Order}
+use Rattle.pieces.specs.declared.Order.the-variants as order
 use Rattle.laying.specs.Laid.{laidOut}
 use Rattle.laying.specs.Ready.{Ready}
 use Rattle.meaning.specs.Sound.{Formed, Sound}

@@ -23,7 +23,7 @@ use Rattle.cases.specs.Filled.{whoIn}
 use Rattle.cases.proofs.Positions.{persons-length, persons-start, upto-at, upto-many}
 use Rattle.cases.proofs.Answers.{plan-first-got}
 use Rattle.boards.specs.Arena.{Done, boardArena}
-use Rattle.laying.specs.declared.Order.the-variants as order
+use Rattle.pieces.specs.declared.Order.the-variants as order
 use Rattle.laying.specs.Laid.{laidOut}
 use Rattle.laying.specs.Ready.{Ready}
 use Rattle.meaning.specs.Listed.{filledBy}

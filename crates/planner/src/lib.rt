@@ -3,6 +3,7 @@
 // t is judged too, and for a board.
 //
 // The answers hold all that a caller needs to act on step by step: after advice, append the person to the position and ask again.
+use advising::advice_walk;
 use asking::filled;
 use asking::judge_absent;
 use asking::judge_number;
@@ -13,13 +14,12 @@ use cases::Filled;
 use cases::Person;
 use cases::Position;
 use judging::judge_case;
-use laying::Order;
 use laying::lay_onto;
 use losses::away_turn;
+use pieces::Order;
 use plans::plan_walk;
 use refusals::Judged;
 use refusals::Refusal;
-use rounds::advice_walk;
 use rounds::dynamic_walk;
 use sets::People;
 use statics::static_walk;

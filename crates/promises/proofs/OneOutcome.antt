@@ -20,6 +20,7 @@ use Rattle.sets.proofs.Records.{stored-number, number-injective}
 use Rattle.games.specs.Limit.{Ended, limit, ended, Answer}
 use Rattle.cases.specs.declared.Person.{Person}
 use Rattle.cases.specs.declared.Filled.{Filled}
+use Rattle.cases.specs.Positions.{persons}
 use Rattle.boards.specs.Board.{fitsOn}
 use Rattle.boards.specs.Arena.{Done}
 use Rattle.boards.proofs.Looked.{agree-same}
@@ -105,6 +106,9 @@ use Rattle.layout.proofs.start.Reads as part-start-reads
 use Rattle.layout.proofs.end.Reads as part-end-reads
 use Rattle.judging.proofs.judge_case.Reads as judge-case-reads
 use Rattle.judging.proofs.too_many.Reads as too-many-reads
+use Rattle.headers.proofs.counts.Reads as counts-reads
+use Rattle.headers.proofs.judge_header.Reads as judge-header-reads
+use Rattle.entries.proofs.case_at.Reads as case-at-reads
 use Rattle.files.proofs.judge.Reads as judge-reads
 use Rattle.files.proofs.read.Reads as read-reads
 use Rattle.files.proofs.people_part.Reads as people-part-reads
@@ -116,6 +120,15 @@ use Rattle.boards.proofs.allowed.Reads as allowed-reads
 use Rattle.boards.proofs.ready.Reads as ready-reads
 use Rattle.boards.proofs.fits.Reads as fits-reads
 use Rattle.boards.proofs.fitting.Reads as fitting-reads
+use Rattle.pieces.proofs.row.Reads as row-reads
+use Rattle.pieces.proofs.column.Reads as column-reads
+use Rattle.pieces.proofs.loops.Reads as loops-reads
+use Rattle.pieces.proofs.allowed.Reads as allowed-entry-reads
+use Rattle.pieces.proofs.named_words.Reads as named-words-reads
+use Rattle.pieces.proofs.following_words.Reads as following-words-reads
+use Rattle.pieces.proofs.pack.Reads as pack-reads
+use Rattle.pieces.proofs.half.Reads as half-reads
+use Rattle.pieces.proofs.first_of.Reads as first-of-reads
 use Rattle.laying.proofs.lay_out.Reads as lay-out-reads
 use Rattle.laying.proofs.lay_onto.Reads as lay-onto-reads
 use Rattle.lines.proofs.Lines.none.Reads as lines-none-reads
@@ -146,7 +159,8 @@ use Rattle.plans.proofs.without_plan.Reads as without-plan-reads
 use Rattle.statics.proofs.static_walk.Reads as static-walk-reads
 use Rattle.statics.proofs.static_from.Reads as static-from-reads
 use Rattle.rounds.proofs.dynamic_walk.Reads as dynamic-walk-reads
-use Rattle.rounds.proofs.advice_walk.Reads as advice-walk-reads
+use Rattle.rounds.proofs.dynamic_from.Reads as dynamic-from-reads
+use Rattle.advising.proofs.advice_walk.Reads as advice-walk-reads
 use Rattle.losses.proofs.away_turn.Reads as away-turn-reads
 use Rattle.strikes.proofs.one_shot_walk.Reads as one-shot-walk-reads
 use Rattle.asking.proofs.judge_number.Reads as judge-number-reads
@@ -180,6 +194,13 @@ use Rattle.telling.proofs.put_asked.Reads as put-asked-reads
 use Rattle.telling.proofs.put_plan.Reads as put-plan-reads
 use Rattle.telling.proofs.put_verdict.Reads as put-verdict-reads
 use Rattle.telling.proofs.put_refusal.Reads as put-refusal-reads
+use Rattle.replies.proofs.position_of.Reads as position-of-reads
+use Rattle.replies.proofs.plan_reply.Reads as plan-reply-reads
+use Rattle.replies.proofs.verdict_reply.Reads as verdict-reply-reads
+use Rattle.replies.proofs.advice_reply.Reads as advice-reply-reads
+use Rattle.replies.proofs.away_reply.Reads as away-reply-reads
+use Rattle.replies.proofs.refused.Reads as refused-reads
+use Rattle.replies.proofs.said.Reads as said-reads
 use Rattle.rodcrank.proofs.rodcrank_judge.Reads as rodcrank-judge-reads
 use Rattle.rodcrank.proofs.rodcrank_plan.Reads as rodcrank-plan-reads
 use Rattle.rodcrank.proofs.rodcrank_static.Reads as rodcrank-static-reads
@@ -515,6 +536,19 @@ judge-case-one κs args r s x y p q = p ∙ sym q
 pub too-many-one : (κs : _) (args : _) (r s : _) (x y : _) → too-many-reads.Post κs args r x → too-many-reads.Post κs args s y → r ≡ s
 too-many-one κs args r s x y p q = p ∙ sym q
 
+-- ---- `headers`: The header of a file
+
+pub counts-one : (κs : _) (args : _) (r s : _) (x y : _) → counts-reads.Post κs args r x → counts-reads.Post κs args s y → r ≡ s
+counts-one κs args r s x y p q = p ∙ sym q
+
+pub judge-header-one : (κs : _) (args : _) (r s : _) (x y : _) → judge-header-reads.Post κs args r x → judge-header-reads.Post κs args s y → r ≡ s
+judge-header-one κs args r s x y p q = p ∙ sym q
+
+-- ---- `entries`: The entries of a file
+
+pub case-at-one : (κs : _) (args : _) (r s : _) (x y : _) → case-at-reads.Post κs args r x → case-at-reads.Post κs args s y → r ≡ s
+case-at-one κs args r s x y p q = p ∙ sym q
+
 -- ---- `files`: Files
 
 pub judge-one : (κs : _) (args : _) (r s : _) (x y : _) → judge-reads.Post κs args r x → judge-reads.Post κs args s y → r ≡ s
@@ -553,6 +587,35 @@ fits-one κs args r s x y p q = number-injective r s (p ∙ sym q)
 
 pub fitting-one : (κs : _) (args : _) (r s : _) (x y : _) → fitting-reads.Post κs args r x → fitting-reads.Post κs args s y → r .people ≡ s .people
 fitting-one κs args r s x y p q = number-injective (r .people) (s .people) (p _ (agree-same _ _) ∙ sym (q _ (agree-same _ _)))
+
+-- ---- `pieces`: What stands at a place of a board
+
+pub row-one : (κs : _) (args : _) (r s : _) (x y : _) → row-reads.Post κs args r x → row-reads.Post κs args s y → r ≡ s
+row-one κs args r s x y p q = number-injective r s (p ∙ sym q)
+
+pub column-one : (κs : _) (args : _) (r s : _) (x y : _) → column-reads.Post κs args r x → column-reads.Post κs args s y → r ≡ s
+column-one κs args r s x y p q = number-injective r s (p ∙ sym q)
+
+pub loops-one : (κs : _) (args : _) (r s : _) (x y : _) → loops-reads.Post κs args r x → loops-reads.Post κs args s y → r ≡ s
+loops-one κs args r s x y p q = number-injective r s (p ∙ sym q)
+
+pub allowed-entry-one : (κs : _) (args : _) (r s : _) (x y : _) → allowed-entry-reads.Post κs args r x → allowed-entry-reads.Post κs args s y → r ≡ s
+allowed-entry-one κs args r s x y p q = number-injective r s (p ∙ sym q)
+
+pub named-words-one : (κs : _) (args : _) (r s : _) (x y : _) → named-words-reads.Post κs args r x → named-words-reads.Post κs args s y → r ≡ s
+named-words-one κs args r s x y p q = p ∙ sym q
+
+pub following-words-one : (κs : _) (args : _) (r s : _) (x y : _) → following-words-reads.Post κs args r x → following-words-reads.Post κs args s y → r ≡ s
+following-words-one κs args r s x y p q = p ∙ sym q
+
+pub pack-one : (κs : _) (args : _) (r s : _) (x y : _) → pack-reads.Post κs args r x → pack-reads.Post κs args s y → r ≡ s
+pack-one κs args r s x y p q = p ∙ sym q
+
+pub half-one : (κs : _) (args : _) (r s : _) (x y : _) → half-reads.Post κs args r x → half-reads.Post κs args s y → r ≡ s
+half-one κs args r s x y p q = p ∙ sym q
+
+pub first-of-one : (κs : _) (args : _) (r s : _) (x y : _) → first-of-reads.Post κs args r x → first-of-reads.Post κs args s y → r ≡ s
+first-of-one κs args r s x y p q = p ∙ sym q
 
 -- ---- `laying`: A case laid out
 
@@ -655,10 +718,15 @@ static-walk-one κs args r s x y p q = verdict-same _ r s (p ∙ sym q)
 pub static-from-one : (κs : _) (args : _) (r s : _) (x y : _) → static-from-reads.Post κs args r x → static-from-reads.Post κs args s y → r .verdict ≡ s .verdict
 static-from-one κs args r s x y p q = verdict-same _ (r .verdict) (s .verdict) (p _ (agree-same _ _) ∙ sym (q _ (agree-same _ _)))
 
--- ---- `rounds`: The searches of the dynamic game
+-- ---- `rounds`: The search of the dynamic game
 
 pub dynamic-walk-one : (κs : _) (args : _) (r s : _) (x y : _) → dynamic-walk-reads.Post κs args r x → dynamic-walk-reads.Post κs args s y → r ≡ s
 dynamic-walk-one κs args r s x y p q = verdict-same _ r s (p ∙ sym q)
+
+pub dynamic-from-one : (κs : _) (args : _) (r s : _) (x y : _) → dynamic-from-reads.Post κs args r x → dynamic-from-reads.Post κs args s y → r .verdict ≡ s .verdict
+dynamic-from-one κs args r s x y p q = verdict-same _ (r .verdict) (s .verdict) (p _ (agree-same _ _) ∙ sym (q _ (agree-same _ _)))
+
+-- ---- `advising`: Advice
 
 pub advice-walk-one : (κs : _) (args : _) (r s : _) (x y : _) → advice-walk-reads.Post κs args r x → advice-walk-reads.Post κs args s y → r ≡ s
 advice-walk-one κs args r s x y p q = advised-same _ r s (p ∙ sym q)
@@ -771,6 +839,29 @@ put-verdict-one κs args r s x y p q = p ∙ sym q
 
 pub put-refusal-one : (κs : _) (args : _) (r s : _) (x y : _) → put-refusal-reads.Post κs args r x → put-refusal-reads.Post κs args s y → r ≡ s
 put-refusal-one κs args r s x y p q = p ∙ sym q
+
+-- ---- `replies`: Positions from bytes, and answers as numbers
+
+pub position-of-one : (κs : _) (args : _) (r s : _) (x y : _) → position-of-reads.Post κs args r x → position-of-reads.Post κs args s y → persons r ≡ persons s
+position-of-one κs args r s x y p q = p ∙ sym q
+
+pub plan-reply-one : (κs : _) (args : _) (r s : _) (x y : _) → plan-reply-reads.Post κs args r x → plan-reply-reads.Post κs args s y → r ≡ s
+plan-reply-one κs args r s x y p q = p ∙ sym q
+
+pub verdict-reply-one : (κs : _) (args : _) (r s : _) (x y : _) → verdict-reply-reads.Post κs args r x → verdict-reply-reads.Post κs args s y → r ≡ s
+verdict-reply-one κs args r s x y p q = p ∙ sym q
+
+pub advice-reply-one : (κs : _) (args : _) (r s : _) (x y : _) → advice-reply-reads.Post κs args r x → advice-reply-reads.Post κs args s y → r ≡ s
+advice-reply-one κs args r s x y p q = p ∙ sym q
+
+pub away-reply-one : (κs : _) (args : _) (r s : _) (x y : _) → away-reply-reads.Post κs args r x → away-reply-reads.Post κs args s y → r ≡ s
+away-reply-one κs args r s x y p q = p ∙ sym q
+
+pub refused-one : (κs : _) (args : _) (r s : _) (x y : _) → refused-reads.Post κs args r x → refused-reads.Post κs args s y → r ≡ s
+refused-one κs args r s x y p q = p ∙ sym q
+
+pub said-one : (κs : _) (args : _) (r s : _) (x y : _) → said-reads.Post κs args r x → said-reads.Post κs args s y → r ≡ s
+said-one κs args r s x y p q = p ∙ sym q
 
 -- ---- `rodcrank`: The calls for other languages
 

@@ -26,7 +26,7 @@ use Rattle.planner.specs.declared.AdviceAnswer.the-variants as advice
 use Rattle.planner.specs.Answers.{adviceGiven, awayGiven}
 use Rattle.planner.specs.Calls.{adviceCall, awayCall}
 use Rattle.planner.proofs.Answering.{few-steps}
-use Rattle.rodcrank.specs.Replies.{refusedReply, adviceReply, awayReply}
+use Rattle.replies.specs.Replies.{refusedReply, adviceReply, awayReply}
 use Rattle.rodcrank.specs.Calls.{unknownAbsent, advised, adviceOn}
 
 -- what has one value for all long lists has it for a list and for its front

@@ -1,5 +1,4 @@
 -- What the calls' proofs use.
-pub mod Entries
 pub mod Fronts
 pub mod Replying
 pub mod Texts

@@ -37,8 +37,8 @@ use Rattle.planner.specs.declared.Question.{Question}
 use Rattle.planner.specs.declared.VerdictAnswer.{VerdictAnswer}
 use Rattle.planner.specs.Answers.{awayEnded, awayAnswer, awayGiven}
 use Rattle.planner.specs.Calls.{planCall, questionCall, adviceCall, awayCall}
-use Rattle.rodcrank.specs.Replies.{refusedReply, verdictReply, adviceReply, awayReply}
-use Rattle.rodcrank.specs.Pairs.{personsIn}
+use Rattle.replies.specs.Replies.{refusedReply, verdictReply, adviceReply, awayReply}
+use Rattle.replies.specs.Pairs.{personsIn}
 use Rattle.rodcrank.specs.Calls.{ifGood, planAnswered, planFile, unknownAbsent, advised, adviceOn, adviceFile, awayFile}
 use Rattle.rodcrank.proofs.Fronts.{advice-front, away-front}
 

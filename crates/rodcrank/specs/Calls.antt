@@ -18,8 +18,8 @@ use Rattle.planner.specs.declared.PlanAnswer.{PlanAnswer}
 use Rattle.planner.specs.declared.AdviceAnswer.{AdviceAnswer}
 use Rattle.planner.specs.declared.AdviceAnswer.the-variants as advice
 use Rattle.planner.specs.Calls.{planCall, staticCall, decrementalCall, oneShotCall, dynamicCall, adviceCall, awayCall}
-use Rattle.rodcrank.specs.Replies.{saysYes, refusedReply, saidReply, planReply, verdictReply, adviceReply, awayReply}
-use Rattle.rodcrank.specs.Pairs.{personsIn}
+use Rattle.replies.specs.Replies.{saysYes, refusedReply, saidReply, planReply, verdictReply, adviceReply, awayReply}
+use Rattle.replies.specs.Pairs.{personsIn}
 
 -- an answer where nothing is refused, else the refusal
 abbrev pub ifGood : Judged → List ℕ → List ℕ

@@ -1,4 +1,2 @@
--- What the exported calls answer, in reading order: an answer as numbers, a position as bytes, and the answer of each call for a file.
-pub mod Replies
-pub mod Pairs
+-- What the exported calls answer: the answer of each call for a file.
 pub mod Calls

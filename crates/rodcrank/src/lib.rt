@@ -1,16 +1,12 @@
 // The planner for other languages: functions that C and Rust call, on a file's bytes and plain numbers. Each reads the case from its file, asks the
-// planner, and leaves one answer of 18 numbers in the caller's array; specs/Replies.antt says what stands at each place. A refused file is asked
+// planner, and leaves one answer of 18 numbers in the caller's array; the crate `replies` says what stands at each place. A refused file is asked
 // nothing; the case of a good one is judged once, when it is read. No exported function has a `requires`, none keeps anything, and nothing but the
 // caller's answer or text is written.
-mod pairs;
-mod replies;
-
 use cases::Case;
 use cases::Position;
 use cases::Step;
 use files::judge;
 use files::read;
-use pairs::position_of;
 use planner::AwayAnswer;
 use planner::Question;
 use planner::advise_good;
@@ -22,6 +18,7 @@ use refusals::Refusal;
 use replies::advice_reply;
 use replies::away_reply;
 use replies::plan_reply;
+use replies::position_of;
 use replies::refused;
 use replies::said;
 use replies::verdict_reply;

@@ -25,8 +25,9 @@ use Rattle.refusals.proofs.Order.{judged-append, good-checks}
 use Rattle.words.specs.Word.{word}
 use Rattle.layout.specs.Layout.{countsOf, caseOf}
 use Rattle.asking.specs.Asking.{numberCheck}
+use Rattle.headers.specs.Checks.{misplaced, headChecks}
 use Rattle.files.specs.declared.FileRead.{FileRead}
-use Rattle.files.specs.Checks.{misplaced, headChecks, fileChecks, judgedFile}
+use Rattle.files.specs.Checks.{fileChecks, judgedFile}
 use Rattle.files.specs.Reading.{ifGood, readOf}
 use Rattle.telling.specs.Telling.{refusedLine, answerLines, told, textOf, judgedInput, absentIn, limitIn, fileIn}
 

@@ -10,7 +10,8 @@ use Rattle.refusals.specs.Refusals.{judgedBy, foundFirst}
 use Rattle.refusals.specs.CaseChecks.{tooMany, rightSize, badRule, stepEntry, rowEntry, ruleEntry, badPerson, badRoles, badOrder, badRow, entryChecks}
 use Rattle.words.specs.Part.{run}
 use Rattle.layout.specs.Layout.{caseAt, fileOf}
-use Rattle.files.specs.Checks.{misplaced, headChecks, fileChecks, judgedFile}
+use Rattle.headers.specs.Checks.{misplaced, headChecks}
+use Rattle.files.specs.Checks.{fileChecks, judgedFile}
 use Rattle.files.specs.Reading.{readOf}
 use Rattle.trips.specs.Campfire.{campfireFile}
 

@@ -14,8 +14,10 @@ use Rattle.refusals.specs.CaseChecks.{tooMany, judgedCase}
 use Rattle.refusals.proofs.Cases.{limited, good-fits, same-refusal}
 use Rattle.layout.specs.Layout.{fileOf}
 use Rattle.layout.proofs.Lengths.{file-long}
-use Rattle.files.specs.Checks.{misplaced, headChecks, judgedFile}
-use Rattle.files.proofs.Headers.{RightHeader, Placed, right-header}
+use Rattle.headers.specs.Checks.{misplaced, headChecks}
+use Rattle.headers.proofs.Right.{RightHeader, Placed}
+use Rattle.files.specs.Checks.{judgedFile}
+use Rattle.files.proofs.Headers.{right-header}
 use Rattle.trips.proofs.Back.{head-back, counts-back, case-back}
 
 -- a right header meets none of 1 to 6

@@ -14,10 +14,11 @@ use Rattle.words.specs.Word.{AllBytes, word}
 use Rattle.words.specs.Part.{table}
 use Rattle.layout.specs.Layout.{headWords, countsOf, caseOf, caseAt, fileOf}
 use Rattle.layout.proofs.Lengths.{file-long}
+use Rattle.headers.proofs.Right.{RightHeader, header-right, header-long}
 use Rattle.files.specs.declared.FileRead.{FileRead}
 use Rattle.files.specs.Checks.{judgedFile}
 use Rattle.files.specs.Reading.{readOf}
-use Rattle.files.proofs.Headers.{RightHeader, header-right, header-long, good-header}
+use Rattle.files.proofs.Headers.{good-header}
 use Rattle.files.proofs.Nothing.{read-good}
 use Rattle.writing.specs.declared.Written.the-variants.{Bytes}
 use Rattle.writing.specs.Writing.{writeAnswer, written, told}

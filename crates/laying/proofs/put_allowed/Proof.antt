@@ -3,8 +3,8 @@ use mathlib.Core.Path.{refl, _∙_}
 use lib.ListN.{getD}
 use Rattle.cases.specs.Case.{zeroStep}
 use Rattle.boards.specs.Board.{allowedFrom}
-use Rattle.laying.specs.Parts.{allowedIn, Put}
-use Rattle.laying.proofs.Writing.{put-start, put-step, put-end}
+use Rattle.pieces.specs.Pieces.{allowedIn, Put}
+use Rattle.pieces.proofs.Writing.{put-start, put-step, put-end}
 use native.Mathlib.Omega.{arith}
 use borrow.Author.Needs.{needs}
 use Rattle.laying.proofs.put_allowed.Statement.{statement}

@@ -2,8 +2,8 @@ use Prim.Native.Nat.{_+_, _-_, _*_}
 use mathlib.Core.Path.{refl, _∙_}
 use Rattle.cases.specs.Case.{mostPeople}
 use Rattle.boards.specs.Board.{columnsFrom}
-use Rattle.laying.specs.Parts.{columnIn, Put}
-use Rattle.laying.proofs.Writing.{put-start, put-step, put-end}
+use Rattle.pieces.specs.Pieces.{columnIn, Put}
+use Rattle.pieces.proofs.Writing.{put-start, put-step, put-end}
 use Rattle.laying.proofs.OffRows.{column-next}
 use native.Mathlib.Omega.{arith}
 use borrow.Author.Needs.{needs}

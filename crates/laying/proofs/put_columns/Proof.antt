@@ -1,8 +1,9 @@
 use Prim.Native.Nat.{_-_}
 use mathlib.Core.Path.{refl}
 use Rattle.boards.specs.Board.{columnsFrom}
-use Rattle.laying.specs.Parts.{columnIn, PutBlocks}
-use Rattle.laying.proofs.Writing.{put-blocks-start, put-blocks-step, put-blocks-end}
+use Rattle.pieces.specs.Pieces.{columnIn}
+use Rattle.laying.specs.Putting.{PutBlocks}
+use Rattle.laying.proofs.Building.{put-blocks-start, put-blocks-step, put-blocks-end}
 use Rattle.laying.proofs.OffRows.{columns-next}
 use native.Mathlib.Omega.{arith}
 use borrow.Author.Needs.{needs}

@@ -1,8 +1,8 @@
 use Prim.Native.Nat.{_-_}
 use mathlib.Core.Path.{refl}
 use Rattle.boards.specs.Board.{halves}
-use Rattle.laying.specs.Parts.{halfIn, Put}
-use Rattle.laying.proofs.Writing.{put-start, put-step, put-end}
+use Rattle.pieces.specs.Pieces.{halfIn, Put}
+use Rattle.pieces.proofs.Writing.{put-start, put-step, put-end}
 use native.Mathlib.Omega.{arith}
 use borrow.Author.Needs.{needs}
 use Rattle.laying.proofs.put_halves.Statement.{statement}

@@ -1,8 +1,8 @@
 use Prim.Native.Nat.{_-_}
 use mathlib.Core.Path.{refl, _∙_}
 use Rattle.boards.specs.Board.{loopsFrom}
-use Rattle.laying.specs.Parts.{loopsIn, Put}
-use Rattle.laying.proofs.Writing.{put-start, put-step, put-end}
+use Rattle.pieces.specs.Pieces.{loopsIn, Put}
+use Rattle.pieces.proofs.Writing.{put-start, put-step, put-end}
 use Rattle.laying.proofs.OffRows.{loops-next}
 use native.Mathlib.Omega.{arith}
 use borrow.Author.Needs.{needs}

@@ -3,8 +3,8 @@ use mathlib.Core.Path.{refl}
 use lib.ListN.{getD}
 use Rattle.cases.specs.Case.{mostSteps}
 use Rattle.boards.specs.Board.{namedFrom}
-use Rattle.laying.specs.Parts.{Put}
-use Rattle.laying.proofs.Writing.{put-start, put-step, put-end}
+use Rattle.pieces.specs.Pieces.{Put}
+use Rattle.pieces.proofs.Writing.{put-start, put-step, put-end}
 use native.Mathlib.Omega.{arith}
 use Rattle.laying.proofs.put_named.Statement.{statement}
 use Rattle.laying.proofs.put_named.Tie as tie

@@ -1,8 +1,8 @@
 use mathlib.Core.Path.{refl, _∙_}
 use Prim.Native.Nat.{_-_, _*_}
 use Rattle.cases.specs.Case.{mostPeople}
-use Rattle.laying.specs.Parts.{rowIn, Put}
-use Rattle.laying.proofs.Writing.{put-start, put-step, put-end}
+use Rattle.pieces.specs.Pieces.{rowIn, Put}
+use Rattle.pieces.proofs.Writing.{put-start, put-step, put-end}
 use native.Mathlib.Omega.{arith}
 use borrow.Author.Needs.{needs}
 use Rattle.laying.proofs.put_row.Statement.{statement}

@@ -1,6 +1,7 @@
 use Prim.Native.Nat.{_-_}
-use Rattle.laying.specs.Parts.{rowIn, PutBlocks}
-use Rattle.laying.proofs.Writing.{put-blocks-start, put-blocks-step, put-blocks-end}
+use Rattle.pieces.specs.Pieces.{rowIn}
+use Rattle.laying.specs.Putting.{PutBlocks}
+use Rattle.laying.proofs.Building.{put-blocks-start, put-blocks-step, put-blocks-end}
 use native.Mathlib.Omega.{arith}
 use borrow.Author.Needs.{needs}
 use Rattle.laying.proofs.put_rows.Statement.{statement}

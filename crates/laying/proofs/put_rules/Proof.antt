@@ -3,9 +3,8 @@ use mathlib.Core.Path.{refl}
 use lib.ListN.{getD}
 use Rattle.cases.specs.Case.{zeroRule}
 use Rattle.boards.specs.Board.{rulesFrom}
-use Rattle.laying.specs.Laid.{packed}
-use Rattle.laying.specs.Parts.{Put}
-use Rattle.laying.proofs.Writing.{put-start, put-step, put-end}
+use Rattle.pieces.specs.Pieces.{packed, Put}
+use Rattle.pieces.proofs.Writing.{put-start, put-step, put-end}
 use native.Mathlib.Omega.{arith}
 use borrow.Author.Needs.{needs}
 use Rattle.laying.proofs.put_rules.Statement.{statement}

@@ -2,8 +2,8 @@ use mathlib.Core.Path.{sym, ap, _∙_}
 use Prim.Native.Nat.{ℕ}
 use lib.ListN.{getD}
 use Rattle.sets.specs.Stored.{number, noPeople}
-use Rattle.laying.specs.Parts.{laidFrom}
-use Rattle.laying.proofs.Writing.{from-start}
+use Rattle.pieces.specs.Pieces.{laidFrom}
+use Rattle.pieces.proofs.Writing.{from-start}
 use borrow.Author.Needs.{needs}
 use Rattle.laying.proofs.put_table_words.Statement.{statement}
 use Rattle.laying.proofs.put_table_words.Tie as tie

@@ -1,8 +1,8 @@
 use Prim.Native.Nat.{_-_}
 use lib.ListN.{getD}
 use Rattle.sets.specs.Stored.{number, noPeople}
-use Rattle.laying.specs.Parts.{Put}
-use Rattle.laying.proofs.Writing.{put-start, put-step, put-end}
+use Rattle.pieces.specs.Pieces.{Put}
+use Rattle.pieces.proofs.Writing.{put-start, put-step, put-end}
 use native.Mathlib.Omega.{arith}
 use borrow.Author.Needs.{needs}
 use Rattle.laying.proofs.put_words.Statement.{statement}

@@ -1,0 +1,2 @@
+-- What reading past the end of a part gives.
+pub mod Past

@@ -1,0 +1,2 @@
+-- What a right header comes to.
+pub mod Right

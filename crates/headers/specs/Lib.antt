@@ -1,0 +1,2 @@
+-- What the header of a file is judged by.
+pub mod Checks

@@ -1,0 +1,2 @@
+-- What the proofs about positions use.
+pub mod Entries
