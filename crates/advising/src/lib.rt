@@ -6,6 +6,8 @@
 //
 // After each placing the dynamic walk tells at which filled steps it looked to see who fills them. Where a placing is not good and its step was not looked at,
 // all other placings there are the same: they are counted, and not walked.
+#![tactic(auto)]
+
 ghost use Rattle.std.specs.Prelude.{◌≡◌, ◌≤◌, ◌<◌};
 ghost use Rattle.sets.specs.Stored.{number};
 ghost use Rattle.games.specs.Walks.{advice};

@@ -1,5 +1,7 @@
 // Judging what a question is asked with: the absence number t, an absence set, a position. It knows the board, on which a position is judged, and
 // nothing of files or searches.
+#![tactic(auto)]
+
 ghost use Rattle.std.specs.Prelude.{◌≡◌, [], ◌∷◌, ◌≤◌};
 ghost use Rattle.sets.specs.Stored.{number};
 ghost use Rattle.cases.specs.Case.{most_steps};

@@ -1,6 +1,8 @@
 // The board: what the searches read. It is one array of plain numbers, lent down every search; specs/Board.antt says what stands at each place.
 // This crate reads a board and does not know how one is laid out from a case. No function has a `requires`: past a board's end every number reads
 // 0 and every set is of nobody.
+#![tactic(auto)]
+
 ghost use Rattle.std.specs.Prelude.{◌≡◌, get_or};
 ghost use Rattle.sets.specs.Sets.{set_of, common, difference, with};
 ghost use Rattle.sets.specs.Stored.{width, number};
@@ -64,7 +66,7 @@ pub fn ready(board: &[u32; PLACES], p: Filled) -> u8
 }
 
 // Those of some people who fit, and the steps whose people were looked at to tell.
-#[derive(Drop)]
+#[derive(Clone, Copy)]
 pub struct Fitted {
     pub people: People,
     pub looked: u8,

@@ -1,4 +1,6 @@
 // Reading the entries of the parts of a file into the arrays of a case. Past the end of a part they are zero, and reading stops there. It judges nothing.
+#![tactic(auto)]
+
 ghost use Rattle.std.specs.Prelude.{◌≡◌, ◌<◌, ◌≤◌, ◌*◌, length};
 ghost use Rattle.cases.specs.Case.{most_people, most_steps, most_tables, most_rules};
 ghost use Rattle.refusals.specs.Offsets.{total_of};

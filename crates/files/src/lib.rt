@@ -2,6 +2,8 @@
 //
 // Reading is total: past the end of a part every entry is zero. So a file with a right header is read first, and 7 to 11 are judged on the case that
 // was read, by the one judge that cases in memory have.
+#![tactic(auto)]
+
 ghost use Rattle.std.specs.Prelude.{◌≡◌, ◌≤◌, length};
 ghost use Rattle.refusals.specs.Offsets.{total_of};
 ghost use Rattle.layout.specs.Layout.{start_of, end_of};
@@ -17,7 +19,7 @@ use layout::{Part, end, start};
 use refusals::Judged;
 
 // What reading a file gives: how it is judged, and the case that it holds, which is the empty case where it is refused.
-#[derive(Drop)]
+#[derive(Clone, Copy)]
 pub struct FileRead {
     pub judged: Judged,
     pub held: Case,

@@ -5,6 +5,8 @@
 // A line of input makes a file and names it, as in `c 24=4 38=4 | 7 and 11`. The letter says which file it starts from: the campfire, the campfire
 // with a relation table, the largest file, or a file with no entries (c, r, l, n). `24=4` puts 4 at byte 24, `24*16=4` puts it at 16 places four
 // bytes apart, and `#41` makes the file 41 bytes long. With a capital letter the bytes of the parts are written besides.
+#![tactic(auto)]
+
 mod making;
 mod shown;
 

@@ -1,7 +1,7 @@
 // A file in the making: what a line of input has said so far.
 use samples::{Made, campfire, largest, nobody, related};
 
-#[derive(Drop)]
+#[derive(Clone, Copy)]
 pub struct Making {
     file: Made,
     // the number that is being read

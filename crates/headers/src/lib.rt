@@ -1,4 +1,6 @@
 // Judging the header of a file: its counts, and 1 to 6. It knows where the parts stand by the counts, and reads none of them.
+#![tactic(auto)]
+
 ghost use Rattle.std.specs.Prelude.{◌≡◌};
 ghost use Rattle.refusals.specs.Refusals.{refusal, judged_by};
 ghost use Rattle.words.specs.Word.{word};

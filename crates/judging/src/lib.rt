@@ -2,6 +2,8 @@
 // knows nothing of boards or searches.
 //
 // Each number from 7 to 11 has a loop of its own, over one array and the counts: it ends at its count, and nothing in it takes a case.
+#![tactic(auto)]
+
 ghost use Rattle.std.specs.Prelude.{◌≡◌, [], ◌∷◌, ◌<◌};
 ghost use Rattle.cases.specs.Case.{most_steps};
 ghost use Rattle.refusals.specs.Refusals.{refusal, judged_by};

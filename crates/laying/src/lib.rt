@@ -1,6 +1,8 @@
 // Lays a case out as a board, once before a search. It knows what a case means and what stands where on a board; the searches know neither.
 // Each part is put onto the lent board by a function of its own, which takes what it reads; `pieces` makes the entries. Loops end at the case's counts, but for
 // those whose number of turns is best known beforehand: over the steps, and over the entries of a table by halves.
+#![tactic(auto)]
+
 ghost use Rattle.std.specs.Prelude.{◌≡◌, ◌+◌, ◌*◌, ◌≤◌, ◌<◌, get_or};
 ghost use Rattle.sets.specs.Stored.{number, no_people};
 ghost use Rattle.cases.specs.Case.{most_people, most_steps, most_tables, most_rules, zero_step, zero_rule};
@@ -18,7 +20,7 @@ use pieces::{
 use sets::People;
 
 // The counts that the loops end at: of people, relations, table rows, steps and rules.
-#[derive(Drop)]
+#[derive(Clone, Copy)]
 struct Sizes {
     people: u8,
     kinds: u8,

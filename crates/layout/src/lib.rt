@@ -2,6 +2,8 @@
 // it. It reads and writes nothing.
 //
 // Offsets are numbers of any counts: whoever trusts them has tested the limits first.
+#![tactic(auto)]
+
 ghost use Rattle.std.specs.Prelude.{◌≡◌, ◌≤◌};
 ghost use Rattle.refusals.specs.Offsets.{rows_in, steps_at, tables_at, rules_at, total_of};
 ghost use Rattle.layout.specs.Layout.{start_of, end_of};
@@ -9,7 +11,7 @@ ghost use Rattle.layout.specs.Layout.{start_of, end_of};
 use cases::Counts;
 
 // The four parts of a file, in its order.
-#[derive(Drop)]
+#[derive(Clone, Copy)]
 pub enum Part {
     People,
     Steps,

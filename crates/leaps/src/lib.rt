@@ -1,6 +1,8 @@
 // Leaps of the static walk: sets of people whose plan walks are summed together. A plan walk tells whom it met, and comes to the same without others too.
 // So the walks without all sets that hold nobody more of those met are counted and not made; the sets that hold more are summed in the same way, one person
 // who was met after the other. Where a set has no plan nothing is said, and the sets must be gone over.
+#![tactic(auto)]
+
 ghost use Rattle.std.specs.Prelude.{ℕ, ◌^◌, ◌≤◌, ◌<◌};
 ghost use Rattle.sets.specs.Stored.{width, number};
 ghost use Rattle.sums.specs.Sums.{only_below};
@@ -19,14 +21,14 @@ use tries::{PlanEnd, Planned};
 const LEAST: u8 = 5;
 
 // From a set on: the trials of all sets with people below a bound besides; or nothing, with the trials that may still be made in vain.
-#[derive(Drop)]
+#[derive(Clone, Copy)]
 pub enum Leap {
     Over(u8, u64),
     Nowhere(u32),
 }
 
 // The sum of the trials, as it is told, or nothing; with the trials that may still be made.
-#[derive(Drop)]
+#[derive(Clone, Copy)]
 enum Tally {
     Sum(u64, u32),
     Lost(u32),

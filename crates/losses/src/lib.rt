@@ -10,6 +10,8 @@
 //
 // Once the desk has held against the first set of a turn, the trials of all sets are reckoned together where they can be. That is not tried before: it would
 // be in vain where the first set beats the desk.
+#![tactic(auto)]
+
 ghost use Rattle.std.specs.Prelude.{◌≡◌, ◌-◌, ◌^◌, ◌≤◌, ◌<◌};
 ghost use Rattle.sets.specs.Sets.{size};
 ghost use Rattle.sets.specs.Stored.{number};

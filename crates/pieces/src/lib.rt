@@ -1,6 +1,8 @@
 // What stands at a place of a board: each entry, made from the pieces that a function is lent. It knows no whole case and puts nothing onto a board.
 // Loops end at the case's counts, but for those whose number of turns is best known beforehand: over the steps, and over the people whose rows a column is
 // gathered from.
+#![tactic(auto)]
+
 ghost use Rattle.std.specs.Prelude.{◌≡◌, ◌≤◌, ◌<◌};
 ghost use Rattle.sets.specs.Lists.{pick};
 ghost use Rattle.sets.specs.Sets.{has, with, difference, everybody};
@@ -15,7 +17,7 @@ use cases::{Case, Rule, StepEntry, with_step};
 use sets::{People, holds, share, with};
 
 // In which order the steps are filled: as they are listed, or as the desk chooses among those whose preceding steps are filled.
-#[derive(Drop)]
+#[derive(Clone, Copy)]
 pub enum Order {
     Listed,
     Chosen,

@@ -3,6 +3,8 @@
 // t is judged too, and for a board.
 //
 // The answers hold all that a caller needs to act on step by step: after advice, append the person to the position and ask again.
+#![tactic(auto)]
+
 ghost use Rattle.std.specs.Prelude.{◌≡◌, ◌≤◌};
 ghost use Rattle.sets.specs.Stored.{number};
 ghost use Rattle.games.specs.Limit.{cut};
@@ -32,7 +34,7 @@ use strikes::one_shot_walk;
 use tries::{Advised, PlanEnd, Planned, Verdict};
 
 // What the plan call says. Every count is of trials; with "limit" it is the limit.
-#[derive(Drop)]
+#[derive(Clone, Copy)]
 pub enum PlanSays {
     Refused(Refusal),
     Limit(u32),
@@ -41,14 +43,14 @@ pub enum PlanSays {
 }
 
 // Where it says yes, `plan` is the first plan; else it is the position at the start. Its entries past the steps are 0.
-#[derive(Drop)]
+#[derive(Clone, Copy)]
 pub struct PlanAnswer {
     pub says: PlanSays,
     pub plan: Position,
 }
 
 // What a verdict says: yes, the desk wins; no, with the set that is shown.
-#[derive(Drop)]
+#[derive(Clone, Copy)]
 pub enum VerdictAnswer {
     Refused(Refusal),
     Limit(u32),
@@ -57,7 +59,7 @@ pub enum VerdictAnswer {
 }
 
 // What advice says: the lowest present person whose placing leaves a good position, or that there is none.
-#[derive(Drop)]
+#[derive(Clone, Copy)]
 pub enum AdviceAnswer {
     Refused(Refusal),
     Limit(u32),
@@ -66,7 +68,7 @@ pub enum AdviceAnswer {
 }
 
 // What away says: the people whose placing leaves a good position, if they are at most t; none where they are more.
-#[derive(Drop)]
+#[derive(Clone, Copy)]
 pub enum AwayAnswer {
     Refused(Refusal),
     Limit(u32),
@@ -75,7 +77,7 @@ pub enum AwayAnswer {
 }
 
 // The questions about absence.
-#[derive(Drop)]
+#[derive(Clone, Copy)]
 pub enum Question {
     Static,
     Decremental,

@@ -1,4 +1,6 @@
 // The lines that `planner_test` reads, and the cases that they make. No part of the product.
+#![tactic(auto)]
+
 mod lines;
 mod making;
 

@@ -4,14 +4,14 @@ ghost use Rattle.std.specs.Prelude.{◌≤◌, length};
 use cases::{Case, Person, Position};
 
 // The numbers of a line.
-#[derive(Drop)]
+#[derive(Clone, Copy)]
 pub struct Line {
     numbers: [u32; 64],
     count: usize,
 }
 
 // A line in the reading: the numbers read, and the one that is being read, if any.
-#[derive(Drop)]
+#[derive(Clone, Copy)]
 struct Reading {
     line: Line,
     number: u64,

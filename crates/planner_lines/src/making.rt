@@ -4,7 +4,7 @@ use cases::{Case, Counts, Rule, Step, StepEntry};
 use sets::People;
 
 // What entries a line names.
-#[derive(Drop)]
+#[derive(Clone, Copy)]
 pub enum Part {
     People,
     Steps,

@@ -17,6 +17,8 @@
 //     dodge LIMIT T N                away played against N desks, the first N lists of persons
 //
 // Every other line is a remark.
+#![tactic(auto)]
+
 mod playing;
 mod saying;
 

@@ -33,7 +33,7 @@ fn advice_said(case: Case, p: Position, t: u32, absent: People, limit: u32) -> A
 }
 
 // What became of a desk: somebody it wants is kept away, it cannot place somebody, or it completes a plan.
-#[derive(Drop)]
+#[derive(Clone, Copy)]
 enum Played {
     KeptAway,
     Cannot,
@@ -41,7 +41,7 @@ enum Played {
 }
 
 // How many desks there were of each.
-#[derive(Drop)]
+#[derive(Clone, Copy)]
 struct Tally {
     kept_away: u32,
     cannot: u32,

@@ -5,6 +5,8 @@
 //
 // A walk tells at which filled steps it looked to see who fills them, and whom it met: who was asked for, present or away. Where it found no plan and did not
 // look at the step that was filled last, the walks from all other placings there are the same: they are counted, and not walked.
+#![tactic(auto)]
+
 ghost use Rattle.std.specs.Prelude.{◌≡◌, ◌≤◌, ◌<◌};
 ghost use Rattle.sets.specs.Stored.{number};
 ghost use Rattle.games.specs.Walks.{plan, if_none};

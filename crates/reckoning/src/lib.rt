@@ -1,6 +1,8 @@
 // The trials of a turn of the away side in the decremental walk, reckoned without going over the absence sets: where the desk always holds with the first
 // person who fits, they are a sum over all sets, taken together. Where it does not, nothing is said, and the walk must be made. It knows the board and the
 // line of people at a position, and no search.
+#![tactic(auto)]
+
 ghost use Rattle.std.specs.Prelude.{◌≡◌, ℕ, ◌+◌, ◌^◌, ◌≤◌, ◌<◌};
 ghost use Rattle.sets.specs.Sets.{size};
 ghost use Rattle.sets.specs.Stored.{width, number};
@@ -25,7 +27,7 @@ const LOOKS: u32 = 1000;
 const LOOK_TRIALS: u32 = 32;
 
 // The sum of the trials, as it is told, with the looks that are left; or nothing.
-#[derive(Drop)]
+#[derive(Clone, Copy)]
 pub enum Reckoned {
     Sum(u64, u32),
     Lost,

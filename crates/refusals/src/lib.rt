@@ -1,19 +1,20 @@
 // Refusals: what is turned away, under which number, at which place, and in which order. It knows the case and where the entries of its file
 // stand, and nothing of bytes or searches.
+#![tactic(auto)]
 
 ghost use Rattle.std.specs.Prelude.{◌≡◌, [], ◌∷◌};
 ghost use Rattle.sets.specs.Lists.{only_if};
 ghost use Rattle.refusals.specs.Refusals.{refusal, judged_by, or_else};
 
 // A refusal: its number in the scope's table, and its place.
-#[derive(Drop)]
+#[derive(Clone, Copy)]
 pub struct Refusal {
     pub number: u8,
     pub place: usize,
 }
 
 // What judging gives: nothing is wrong, or the one refusal.
-#[derive(Drop)]
+#[derive(Clone, Copy)]
 pub enum Judged {
     Good,
     Refused(Refusal),

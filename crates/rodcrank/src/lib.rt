@@ -2,6 +2,8 @@
 // planner, and leaves one answer of 18 numbers in the caller's array; the crate `replies` says what stands at each place. A refused file is asked
 // nothing; the case of a good one is judged once, when it is read. No exported function has a `requires`, none keeps anything, and nothing but the
 // caller's answer or text is written.
+#![tactic(auto)]
+
 ghost use Rattle.std.specs.Prelude.{◌≡◌, ◌≤◌, length, take};
 ghost use Rattle.sets.specs.Stored.{from_words};
 ghost use Rattle.cases.specs.Positions.{persons};

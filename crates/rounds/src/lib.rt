@@ -5,6 +5,8 @@
 //
 // A walk tells at which filled steps it looked to see who fills them. Where it did not look at the step that was filled last, the walks from all other
 // placings there are the same: they are counted, and not walked.
+#![tactic(auto)]
+
 ghost use Rattle.std.specs.Prelude.{◌≡◌, ◌≤◌, ◌<◌};
 ghost use Rattle.games.specs.Walks.{dynamic};
 ghost use Rattle.games.specs.Limit.{cut};

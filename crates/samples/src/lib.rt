@@ -1,14 +1,15 @@
 // Files made in memory, for programs that try things on them: the campfire and others, changed byte by byte.
+#![tactic(auto)]
 
 // A file of at most 1,100 bytes, of which the first `len` count.
-#[derive(Drop)]
+#[derive(Clone, Copy)]
 pub struct Made {
     data: [u8; 1100],
     len: usize,
 }
 
 // The numbers of a header after the edition: five counts, four offsets, and the total.
-#[derive(Drop)]
+#[derive(Clone, Copy)]
 struct Head {
     pub people: u16,
     pub steps: u16,

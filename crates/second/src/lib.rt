@@ -3,6 +3,8 @@
 // trials the walk would take is summed up from the longer positions, without walking.
 //
 // Nothing is promised here but safety: questions that the slate has no room for are given up, and the comparison counts them.
+#![tactic(auto)]
+
 mod absences;
 mod passes;
 mod play;

@@ -194,7 +194,7 @@ fn away_turns(slate: &mut [usize; SLATE], node: usize) {
 }
 
 // What enlarging a set comes to: whether the desk holds against every larger set, else the first that beats it, and the trials.
-#[derive(Drop)]
+#[derive(Clone, Copy)]
 struct Enlarged {
     held: bool,
     set: usize,

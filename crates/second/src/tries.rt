@@ -4,7 +4,7 @@ use second_positions::{SLATE, all_people, cell_at, cell_in, depth, kid, may_do};
 
 // What a question is answered. `says`: 0 no or none, 1 yes or a person or a set, 2 limit, 3 refused. `shown` is the plan's persons, the set, the
 // person or the refusal's number; `trials` the trials, or the refusal's place.
-#[derive(Drop)]
+#[derive(Clone, Copy)]
 pub struct Answer {
     pub says: usize,
     pub shown: usize,
@@ -12,7 +12,7 @@ pub struct Answer {
 }
 
 // The answers to the five questions: plan, static, decremental, one-shot and dynamic.
-#[derive(Drop)]
+#[derive(Clone, Copy)]
 pub struct Five {
     pub plan: Answer,
     pub fixed: Answer,
@@ -39,7 +39,7 @@ pub fn within(limit: usize, answer: Answer) -> Answer {
 }
 
 // What trying people at a node comes to: the trials, and those who leave the desk a win.
-#[derive(Drop)]
+#[derive(Clone, Copy)]
 pub struct Tried {
     pub trials: usize,
     pub good: usize,

@@ -1,4 +1,6 @@
 // The planner's calls as the comparison asks them, and their answers told as the second search tells its own.
+#![tactic(auto)]
+
 use cases::{Case, Person, Position};
 use planner::{AdviceAnswer, AwayAnswer, PlanSays, VerdictAnswer};
 use refusals::{Judged, Refusal};

@@ -1,4 +1,6 @@
 // Good cases compared: every question, at several limits, its play, the program's text and the exported calls.
+#![tactic(auto)]
+
 use cases::Case;
 use second::{
     Answer, Five, MOST_TRIALS, decremental, dynamic, first_plan, has_room, list_sets, one_shot,

@@ -1,5 +1,7 @@
 // Damaged files compared: how they are judged, their text, what the exported functions say of them, and what the calls say of the same case in memory.
 // Nothing is promised here but safety.
+#![tactic(auto)]
+
 use cases::Case;
 use second::Answer;
 use second_calls::{ask_advice, ask_away, ask_judge, ask_verdict, judged_told, refused_told};

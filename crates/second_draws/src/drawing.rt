@@ -8,7 +8,7 @@ use second_files::{
 // What a file is drawn to: its counts, and the chances. Each person and each step has each role with a chance of `odds` in 8, and each pair is in a table
 // with a chance of `pairs` in 8. The steps of a rule lie within a stretch of `reach` steps. A mild file has a role for every step, and no rule that asks
 // for the same person or of a step about itself.
-#[derive(Drop)]
+#[derive(Clone, Copy)]
 pub struct Shape {
     pub people: usize,
     pub steps: usize,

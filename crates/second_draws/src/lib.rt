@@ -1,4 +1,6 @@
 // Good case files, drawn by chance from a seed that the caller keeps. Nothing is promised here but safety.
+#![tactic(auto)]
+
 mod chance;
 mod drawing;
 

@@ -1,4 +1,6 @@
 // The exported functions compared with what the second search says they must leave in the caller's array. Nothing is promised here but safety.
+#![tactic(auto)]
+
 mod calls;
 mod tries;
 

@@ -111,7 +111,7 @@ fn try_positions(
 }
 
 // An absence set in two words.
-#[derive(Drop)]
+#[derive(Clone, Copy)]
 struct Absent {
     low: usize,
     high: usize,

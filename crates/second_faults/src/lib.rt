@@ -1,5 +1,7 @@
 // Faults put into a file, one for each of 1 to 11. Where the file has no entry for a fault, or the fault makes no difference, it may stay good. Nothing is
 // promised here but safety.
+#![tactic(auto)]
+
 use second_draws::below;
 use second_files::{
     ROOM, byte, long, minus, people, person_at, plus, put_byte, put_long, put_word, roles, row_at,

@@ -2,6 +2,8 @@
 // shares no code with what it is compared to.
 //
 // Nothing is promised here but safety. A file is the first `length` bytes of an array; what stands past them is never asked for.
+#![tactic(auto)]
+
 mod bytes;
 mod numbers;
 mod turned;

@@ -6,7 +6,7 @@ use crate::bytes::{
 use crate::numbers::{down, plus, size, times};
 
 // Turned away under a number, at a place; or number 0: nothing is wrong.
-#[derive(Drop)]
+#[derive(Clone, Copy)]
 pub struct Turned {
     pub number: usize,
     pub place: usize,

@@ -1,5 +1,7 @@
 // The scope's lines, written a second time: bytes put behind each other into a lent array. Each function says where the text then ends. Nothing is
 // promised here but safety.
+#![tactic(auto)]
+
 use second::Answer;
 use second_files::{
     ROOM, Turned, has, people, plus, roles, rules, steps, tables, times, to_8, wide,

@@ -1,4 +1,6 @@
 // A case and a position in memory, made from a file's bytes and from plain numbers by code of its own, for the second search.
+#![tactic(auto)]
+
 use cases::{Case, Counts, Person, Position, Rule, Step, StepEntry};
 use second_draws::below;
 use second_files::{

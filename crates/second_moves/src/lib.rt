@@ -1,11 +1,13 @@
 // Where a game stands, and what is drawn for questions and games: moves, positions, absences and limits. Nothing is promised here but safety.
+#![tactic(auto)]
+
 use second::{Answer, MOST_TRIALS, advice};
 use second_draws::{below, some_of};
 use second_files::{ROOM, has, minus, people, plus, set_of};
 use second_positions::{SLATE, all_people, all_steps, kid, placed};
 
 // A position: its node, its persons and its length.
-#[derive(Drop)]
+#[derive(Clone, Copy)]
 pub struct At {
     pub node: usize,
     pub who: usize,

@@ -1,4 +1,6 @@
 // Advice and away compared at positions by chance, valid ones and others, and in whole games.
+#![tactic(auto)]
+
 mod questions;
 mod rounds;
 

@@ -1,5 +1,7 @@
 // The positions of a case, for the second search: which are valid, asked of the file's bytes, and all of them listed once, breadth first, on a lent
 // slate of numbers. Nothing is promised here but safety: where the slate has no room, the listing says so.
+#![tactic(auto)]
+
 mod positions;
 mod rules;
 mod slate;

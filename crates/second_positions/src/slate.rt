@@ -162,7 +162,7 @@ pub fn cell_at(stretch: usize, node: usize, wide: usize, a: usize) -> usize {
 }
 
 // What a cell holds: whether the desk wins, and the trials of the walk from there.
-#[derive(Drop)]
+#[derive(Clone, Copy)]
 pub struct Cell {
     pub won: bool,
     pub trials: usize,

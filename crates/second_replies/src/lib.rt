@@ -1,5 +1,7 @@
 // What the exported functions take and must leave, made from the second search's own numbers: positions in pairs of bytes, and replies. Nothing is
 // promised here but safety.
+#![tactic(auto)]
+
 mod pairs;
 mod replies;
 

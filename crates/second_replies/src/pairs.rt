@@ -8,7 +8,7 @@ use second_positions::{keeps, may, person_of, placed};
 const BYTES: usize = 24;
 
 // A position: the first n bytes.
-#[derive(Drop)]
+#[derive(Clone, Copy)]
 pub struct Pairs {
     pub bytes: [u8; BYTES],
     pub n: usize,

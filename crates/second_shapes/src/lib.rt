@@ -1,9 +1,11 @@
 // What is drawn: the shapes of small, middle and large cases, each with a number of absentees. Nothing is promised here but safety.
+#![tactic(auto)]
+
 use second_draws::{Shape, below};
 use second_files::{minus, plus};
 
 // A shape, and t.
-#[derive(Drop)]
+#[derive(Clone, Copy)]
 pub struct Drawn {
     pub shape: Shape,
     pub t: usize,

@@ -1,4 +1,6 @@
 // Counts of what was compared, and the first difference. Nothing is promised here but safety.
+#![tactic(auto)]
+
 mod counts;
 mod differences;
 mod printing;

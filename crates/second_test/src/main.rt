@@ -1,5 +1,7 @@
 // Compares the planner with the second search on inputs drawn by chance from a fixed seed, and prints how many there were of each kind, and the first
 // difference in full.
+#![tactic(auto)]
+
 use second_cases::try_case;
 use second_damaged::try_damaged;
 use second_draws::draw;

@@ -1,5 +1,7 @@
 // The program's text compared, byte for byte, with one written a second time from the second search's own answers; and the exported function that
 // puts it into a buffer. Nothing is promised here but safety.
+#![tactic(auto)]
+
 use rodcrank::rodcrank_verdicts;
 use second::{Five, MOST_TRIALS, within};
 use second_draws::below;

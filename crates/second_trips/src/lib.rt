@@ -1,4 +1,6 @@
 // Parts, writes that are refused, and round trips, compared. Nothing is promised here but safety.
+#![tactic(auto)]
+
 use cases::Case;
 use second::Answer;
 use second_calls::{refused_told, written_told};

@@ -2,6 +2,8 @@
 // writes, with bit v for person v. It knows nothing of cases, games or files.
 //
 // No function has a `requires`: a person at or past the width is in no set, and no set has room for one.
+#![tactic(auto)]
+
 mod small;
 
 ghost use Rattle.std.specs.Prelude.{◌≡◌, ◌&&◌, min, ◌+◌, ◌^◌, leb, ltb, eqb};
@@ -13,27 +15,27 @@ ghost use Rattle.sets.specs.Stored.{width, number, stored, no_people, set_at, ne
 pub use small::{holds, lowest_in, past, share, shared, size, with, within, without};
 
 // A set of people.
-#[derive(Drop)]
+#[derive(Clone, Copy)]
 pub struct People {
     bits: u32,
 }
 
 // The set after another one, in a list of sets.
-#[derive(Drop)]
+#[derive(Clone, Copy)]
 pub enum Next {
     Set(People),
     Nothing,
 }
 
 // The set that two words write, where it has no member past the width.
-#[derive(Drop)]
+#[derive(Clone, Copy)]
 pub enum Wide {
     Set(People),
     Past,
 }
 
 // The lowest member of a set.
-#[derive(Drop)]
+#[derive(Clone, Copy)]
 pub enum Lowest {
     Person(u8),
     Nobody,

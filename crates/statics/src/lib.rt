@@ -2,6 +2,8 @@
 // trial for trial.
 //
 // From a set that has a plan it leaps, where it can, over all sets with people below a bound besides, with the sum of their trials.
+#![tactic(auto)]
+
 ghost use Rattle.std.specs.Prelude.{◌≡◌, ◌≤◌};
 ghost use Rattle.games.specs.Walks.{static};
 ghost use Rattle.games.specs.Limit.{cut};

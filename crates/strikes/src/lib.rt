@@ -6,6 +6,8 @@
 //
 // A walk tells at which filled steps it looked to see who fills them. Where the desk is beaten and the step that was filled last was not looked at, it is
 // beaten after all other placings there in the same way: they are counted, and not walked.
+#![tactic(auto)]
+
 ghost use Rattle.std.specs.Prelude.{◌≡◌, ◌-◌, ◌≤◌, ◌<◌};
 ghost use Rattle.games.specs.Walks.{plus, static, one_shot};
 ghost use Rattle.games.specs.Limit.{cut};

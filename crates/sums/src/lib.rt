@@ -1,5 +1,7 @@
 // Sums over absence sets, without going over the sets: what they mean (specs/), their laws (proofs/), and how many sets there are, counted.
 // This crate knows sets and walks, and no board and no search.
+#![tactic(auto)]
+
 ghost use Rattle.std.specs.Prelude.{◌≡◌, ℕ, ◌+◌, ◌*◌, ◌≤◌, ◌<◌};
 ghost use Rattle.sets.specs.Lists.{pick};
 ghost use Rattle.sets.specs.Sets.{has};
@@ -19,7 +21,7 @@ const SUMS: usize = 9;
 const MOST: u64 = 1 << 32;
 
 // Absence sets: each holds everybody of `held` and at most `room` others. Where person u joins, what follows counts weights[u] times.
-#[derive(Drop)]
+#[derive(Clone, Copy)]
 pub struct Absences {
     pub held: People,
     pub room: u32,

@@ -1,4 +1,6 @@
 // The text of the program `verdicts`, as a function of its input. It knows the layout of the input and the lines, and nothing of streams.
+#![tactic(auto)]
+
 mod lines;
 mod room;
 mod text;

@@ -7,7 +7,7 @@ ghost use Rattle.telling.specs.Held.{put as Held·put};
 use crate::room::{add_number, add_word};
 
 // A text: its bytes, of which the first `len` count and the others are 0.
-#[derive(Drop)]
+#[derive(Clone, Copy)]
 pub struct Text {
     pub bytes: [u8; Text::ROOM],
     pub len: usize,

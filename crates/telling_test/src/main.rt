@@ -1,5 +1,7 @@
 // Tries the program's text: the campfire under several absence numbers and limits, every refusal from 1 to 12, the edges of a case, and inputs that
 // are too short or too long. Before each text stands the name of the try.
+#![tactic(auto)]
+
 use samples::{Made, campfire, first, largest, nobody, related};
 use telling::tell;
 use words::{put_long, put_word};

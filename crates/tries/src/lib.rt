@@ -2,6 +2,8 @@
 //
 // A position's people are lined up once: those who cost a trial, and among them those with whom every rule holds. Each turn of a loop then goes
 // straight to the next person worth a try, and counts those passed over, each a trial, without looking at them.
+#![tactic(auto)]
+
 mod choice;
 mod everyone;
 
@@ -17,7 +19,7 @@ pub use everyone::{all_bad, all_good, rest_alike};
 use sets::{Lowest, People, lowest_in};
 
 // How a search for a plan ended.
-#[derive(Drop)]
+#[derive(Clone, Copy)]
 pub enum PlanEnd {
     Limit,
     No(u32),
@@ -26,7 +28,7 @@ pub enum PlanEnd {
 
 // Where the end is yes, `plan` is the plan. `looked` are the filled steps whose people were looked at: who fills the others makes no difference. `met` are
 // the people who were asked for: whether the others are away makes no difference.
-#[derive(Drop)]
+#[derive(Clone, Copy)]
 pub struct Planned {
     pub end: PlanEnd,
     pub plan: Filled,
@@ -35,7 +37,7 @@ pub struct Planned {
 }
 
 // A verdict with its trials; a no shows a set.
-#[derive(Drop)]
+#[derive(Clone, Copy)]
 pub enum Verdict {
     Limit,
     Yes(u32),
@@ -43,14 +45,14 @@ pub enum Verdict {
 }
 
 // A verdict, and the filled steps whose people were looked at.
-#[derive(Drop)]
+#[derive(Clone, Copy)]
 pub struct Walked {
     pub verdict: Verdict,
     pub looked: u8,
 }
 
 // Advice with its trials: a step, and who does it.
-#[derive(Drop)]
+#[derive(Clone, Copy)]
 pub enum Advised {
     Limit,
     Nobody(u32),
@@ -58,7 +60,7 @@ pub enum Advised {
 }
 
 // A turn of the desk, with its trials: beaten, or not.
-#[derive(Drop)]
+#[derive(Clone, Copy)]
 pub enum Turn {
     Limit,
     Beaten(u32),
@@ -66,42 +68,42 @@ pub enum Turn {
 }
 
 // A turn, and the filled steps whose people were looked at.
-#[derive(Drop)]
+#[derive(Clone, Copy)]
 pub struct Turned {
     pub turn: Turn,
     pub looked: u8,
 }
 
 // The people still to be tried at a position: each of `tried` costs a trial, and with those of `fit`, who are among them, every rule holds.
-#[derive(Drop)]
+#[derive(Clone, Copy)]
 pub struct Line {
     pub tried: People,
     pub fit: People,
 }
 
 // A line, and the filled steps whose people were looked at to make it.
-#[derive(Drop)]
+#[derive(Clone, Copy)]
 pub struct Lined {
     pub line: Line,
     pub looked: u8,
 }
 
 // The line of a step, and the filled steps whose people were looked at to make it.
-#[derive(Drop)]
+#[derive(Clone, Copy)]
 pub struct StepLine {
     pub line: lines::Line,
     pub looked: u8,
 }
 
 // The lines at a position, of everybody, and the filled steps whose people were looked at to make them.
-#[derive(Drop)]
+#[derive(Clone, Copy)]
 pub struct Choices {
     pub lines: lines::Lines,
     pub looked: u8,
 }
 
 // The next person worth a try, with the trials used when they are tried; or nobody, with the trials used when all are.
-#[derive(Drop)]
+#[derive(Clone, Copy)]
 pub enum Try {
     Limit,
     Nobody(u32),
@@ -109,7 +111,7 @@ pub enum Try {
 }
 
 // The trials used when a whole line is tried, or that they are more than the limit.
-#[derive(Drop)]
+#[derive(Clone, Copy)]
 pub enum Spent {
     Limit,
     All(u32),

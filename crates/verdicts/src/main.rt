@@ -1,4 +1,6 @@
 // The program: reads t, limit and a case from standard input, and writes the verdicts to standard output.
+#![tactic(auto)]
+
 use libc::{STDIN_FILENO, STDOUT_FILENO};
 use telling::tell;
 

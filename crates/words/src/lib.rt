@@ -1,4 +1,6 @@
 // Bytes and little-endian numbers of a slice, got and put. It knows nothing of cases or files. Past the end of a slice every byte is 0.
+#![tactic(auto)]
+
 ghost use Rattle.std.specs.Prelude.{◌≡◌, ◌&&◌, ◌||◌, ◌+◌, ◌<◌, length};
 ghost use Rattle.std.proofs.lemmas.List.Edits.{sets};
 ghost use Rattle.words.specs.Word.{byte, word, long, le2, le4};

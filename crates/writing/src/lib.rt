@@ -1,4 +1,6 @@
 // Writes a case as a file into a lent buffer. Each part's writer is lent that part's own stretch of the buffer and knows nothing of the rest.
+#![tactic(auto)]
+
 ghost use Rattle.std.specs.Prelude.{◌≡◌, ◌++◌, ◌+◌, ◌-◌, ◌*◌, ◌<◌, ◌≤◌, length, get_or, drop};
 ghost use Rattle.std.proofs.lemmas.List.Edits.{sets};
 ghost use Rattle.sets.specs.Stored.{no_people};
@@ -17,7 +19,7 @@ use sets::People;
 use words::{put_long, put_word};
 
 // What a write answers: how many bytes of the buffer it wrote, or why it wrote none.
-#[derive(Drop)]
+#[derive(Clone, Copy)]
 pub enum Written {
     Bytes(u16),
     Refused(Refusal),

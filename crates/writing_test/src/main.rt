@@ -1,5 +1,7 @@
 // Tries the writer: files that are read are written again, into buffers that have room and into buffers that have not; good cases with rubbish above
 // their counts, and bad ones. One line per try: its name, what the writer answers, and what it left in the buffer.
+#![tactic(auto)]
+
 mod changed;
 mod shown;
 
