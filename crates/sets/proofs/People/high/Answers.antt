@@ -1,0 +1,7 @@
+use native.Mathlib.Omega.{arith}
+use Rattle.sets.specs.Stored.{number}
+use Rattle.sets.proofs.People.high.Goals as goal
+
+pub returns : goal.returns
+unfolding number
+returns c = omega arith
