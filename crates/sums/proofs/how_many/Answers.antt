@@ -1,8 +1,5 @@
-use Prim.Native.Nat.{◌-◌, ◌≤◌}
 use native.Mathlib.Omega.{arith}
-use Rattle.sets.specs.Stored.{number}
-use Rattle.sums.specs.Arrays.{weight_of}
-use Rattle.sums.proofs.Counts.{Counting, counting-start, counting-under, counting-alone, counting-step, counting-end}
+use Rattle.sums.proofs.Counts.{counting-start, counting-under, counting-alone, counting-step, counting-end}
 use Rattle.sums.proofs.how_many.Goals as goal
 
 pub overflow_cast-room : goal.overflow_cast-room

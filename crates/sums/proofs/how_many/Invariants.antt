@@ -1,8 +1,7 @@
 use Prim.Native.Nat.{◌-◌, ◌≤◌}
-use native.Mathlib.Omega.{arith}
 use Rattle.sets.specs.Stored.{number}
 use Rattle.sums.specs.Arrays.{weight_of}
-use Rattle.sums.proofs.Counts.{Counting, counting-start, counting-under, counting-alone, counting-step, counting-end}
+use Rattle.sums.proofs.Counts.{Counting}
 use Rattle.sums.proofs.how_many.Given as goal
 
 abbrev pub invariant-loop-u : goal.invariant-loop-u

@@ -1,6 +1,5 @@
-use Prim.Native.Nat.{◌-◌, ◌≤◌}
 use native.Mathlib.Omega.{arith}
-use Rattle.sums.proofs.Counts.{Weighing, weighing-start, weighing-step, weighing-end}
+use Rattle.sums.proofs.Counts.{weighing-start, weighing-step, weighing-end}
 use Rattle.sums.proofs.once_below.Goals as goal
 
 pub loop-u-init : goal.loop-u-init

@@ -1,6 +1,5 @@
 use Prim.Native.Nat.{◌-◌, ◌≤◌}
-use native.Mathlib.Omega.{arith}
-use Rattle.sums.proofs.Counts.{Weighing, weighing-start, weighing-step, weighing-end}
+use Rattle.sums.proofs.Counts.{Weighing}
 use Rattle.sums.proofs.once_below.Given as goal
 
 abbrev pub invariant-loop-u : goal.invariant-loop-u

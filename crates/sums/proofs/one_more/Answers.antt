@@ -1,8 +1,8 @@
 use mathlib.Core.Path.{refl}
-use Prim.Native.Nat.{◌+◌, ◌-◌, ◌*◌, ◌^◌, ◌<◌}
+use Prim.Native.Nat.{◌+◌, ◌*◌, ◌^◌, ◌<◌}
 use native.Mathlib.Omega.{arith}
 use Rattle.sums.specs.Arrays.{entry}
-use Rattle.sums.proofs.Counts.{Joining, joining-start, joining-step, joining-end, joining-nobody, joining-fits}
+use Rattle.sums.proofs.Counts.{joining-start, joining-step, joining-end, joining-nobody, joining-fits}
 use Rattle.sums.proofs.one_more.Goals as goal
 
 -- no sum is too large

@@ -1,8 +1,6 @@
-use mathlib.Core.Path.{refl}
-use Prim.Native.Nat.{◌+◌, ◌-◌, ◌*◌, ◌^◌, ◌<◌}
-use native.Mathlib.Omega.{arith}
+use Prim.Native.Nat.{◌-◌}
 use Rattle.sums.specs.Arrays.{entry}
-use Rattle.sums.proofs.Counts.{Joining, joining-start, joining-step, joining-end, joining-nobody, joining-fits}
+use Rattle.sums.proofs.Counts.{Joining}
 use Rattle.sums.proofs.one_more.Given as goal
 
 abbrev pub invariant-loop-j : goal.invariant-loop-j

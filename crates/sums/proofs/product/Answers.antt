@@ -1,6 +1,5 @@
 use native.Mathlib.Omega.{arith}
 use Rattle.sums.proofs.Counts.{product-none, product-most, product-fits}
-use borrow.Author.Rules.{rules}
 use Rattle.sums.proofs.product.Goals as goal
 
 pub returns-then-a-eq0 : goal.returns-then-a-eq0

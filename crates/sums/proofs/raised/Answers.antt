@@ -1,7 +1,6 @@
 use mathlib.Core.Path.{refl}
-use Prim.Native.Nat.{◌-◌, ◌≤◌}
 use native.Mathlib.Omega.{arith}
-use Rattle.sums.proofs.Counts.{Raising, raising-start, raising-step, raised_all}
+use Rattle.sums.proofs.Counts.{raising-start, raising-step, raised_all}
 use Rattle.sums.proofs.raised.Goals as goal
 
 pub loop-u-init : goal.loop-u-init

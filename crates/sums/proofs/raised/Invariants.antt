@@ -1,7 +1,5 @@
-use mathlib.Core.Path.{refl}
 use Prim.Native.Nat.{◌-◌, ◌≤◌}
-use native.Mathlib.Omega.{arith}
-use Rattle.sums.proofs.Counts.{Raising, raising-start, raising-step, raised_all}
+use Rattle.sums.proofs.Counts.{Raising}
 use Rattle.sums.proofs.raised.Given as goal
 
 abbrev pub invariant-loop-u : goal.invariant-loop-u

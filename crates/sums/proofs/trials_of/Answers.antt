@@ -2,7 +2,6 @@ use mathlib.Core.Path.{sym, ap, ◌∙◌}
 use native.Mathlib.Omega.{arith}
 use Rattle.sums.specs.declared.Absences.{Absences}
 use Rattle.sums.proofs.Counts.{trials-some, trials-none}
-use borrow.Author.Rules.{rules}
 use Rattle.sums.proofs.trials_of.Goals as goal
 
 pub how_many-requires : goal.how_many-requires

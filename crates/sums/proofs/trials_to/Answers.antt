@@ -1,6 +1,5 @@
-use Prim.Native.Nat.{◌-◌, ◌≤◌}
 use native.Mathlib.Omega.{arith}
-use Rattle.sums.proofs.Counts.{Trials, trials-start, trials-step, trials-end}
+use Rattle.sums.proofs.Counts.{trials-start, trials-step, trials-end}
 use Rattle.sums.proofs.trials_to.Goals as goal
 
 pub how_many-sum-requires : goal.how_many-sum-requires

@@ -1,6 +1,5 @@
 use Prim.Native.Nat.{◌-◌, ◌≤◌}
-use native.Mathlib.Omega.{arith}
-use Rattle.sums.proofs.Counts.{Trials, trials-start, trials-step, trials-end}
+use Rattle.sums.proofs.Counts.{Trials}
 use Rattle.sums.proofs.trials_to.Given as goal
 
 abbrev pub invariant-loop-u : goal.invariant-loop-u

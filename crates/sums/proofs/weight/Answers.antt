@@ -2,7 +2,6 @@ use mathlib.Core.Path.{sym, ap, ◌∙◌}
 use mathlib.Core.Bool.{Bool}
 use Rattle.sets.specs.Lists.{pick}
 use Rattle.sums.specs.Arrays.{weight_of}
-use borrow.Author.Rules.{rules}
 use Rattle.sums.proofs.weight.Goals as goal
 
 pub returns-then-has : goal.returns-then-has

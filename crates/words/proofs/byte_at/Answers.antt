@@ -1,5 +1,4 @@
 -- `words::byte_at` meets its contract: past the end `get_or` is its default.
-use borrow.Author.Rules.{rules}
 use lib.ListN.{get_or-eq_default}
 use mathlib.Core.Path.{sym}
 use Rattle.words.proofs.byte_at.Goals as goal
