@@ -1,0 +1,7 @@
+use Rattle.boards.specs.Board.{allowed_on}
+use borrow.Author.Rules.{rules}
+use Rattle.boards.proofs.allowed.Goals as goal
+
+pub returns : goal.returns
+unfolding allowed_on
+returns c = c.at.ensures
