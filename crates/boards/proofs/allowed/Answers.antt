@@ -1,5 +1,4 @@
 use Rattle.boards.specs.Board.{allowed_on}
-use borrow.Author.Rules.{rules}
 use Rattle.boards.proofs.allowed.Goals as goal
 
 pub returns : goal.returns

@@ -1,5 +1,4 @@
 use Rattle.boards.proofs.Halves.{full_is}
-use borrow.Author.Rules.{rules}
 use Rattle.boards.proofs.full.Goals as goal
 
 pub returns : goal.returns

@@ -2,7 +2,6 @@ use mathlib.Core.Path.{ap₂, ◌∙◌}
 use Prim.Native.Nat.{ℕ}
 use Rattle.sets.specs.Sets.{common}
 use Rattle.boards.specs.Board.{both_on}
-use borrow.Author.Rules.{rules}
 use Rattle.boards.proofs.in_both.Goals as goal
 
 pub returns : goal.returns

@@ -1,14 +1,8 @@
 -- The people with whom every pair is in the relation: one pair after the other.
-use mathlib.Core.Path.{◌≡◌, sym, ◌∙◌}
-use native.Mathlib.Omega.{arith}
-use borrow.Author.Rules.{rules}
-use borrow.Author.Tests.{eqb-true}
-use Prim.Native.Nat.{ℕ, ◌<◌}
-use Rattle.sets.specs.Sets.{has, size}
-use Rattle.sets.specs.Stored.{width, number}
+use Rattle.sets.specs.Sets.{size}
+use Rattle.sets.specs.Stored.{number}
 use Rattle.boards.specs.Over.{Narrowed}
-use Rattle.boards.proofs.Over.{over-less, by-common, narrowed-start, narrowed-step, narrowed-end, narrowed_none}
-use Rattle.boards.proofs.Pairs.{pair_test, pair-here, every-pair}
+use Rattle.boards.proofs.Pairs.{pair_test}
 use Rattle.boards.proofs.in_every_pair.Given as goal
 
 abbrev pub invariant-loop-x : goal.invariant-loop-x

@@ -1,15 +1,12 @@
 -- The people with whom some pair is in the relation: all but those with whom none is, one pair after the other.
-use mathlib.Core.Path.{◌≡◌, sym, ap, ◌∙◌}
-use mathlib.Core.Bool.{not}
+use mathlib.Core.Path.{sym, ap, ◌∙◌}
 use native.Mathlib.Omega.{arith}
-use borrow.Author.Rules.{rules}
 use borrow.Author.Tests.{eqb-true}
-use Prim.Native.Nat.{ℕ, ◌<◌}
-use Rattle.sets.specs.Sets.{has, size, difference}
+use Prim.Native.Nat.{ℕ}
+use Rattle.sets.specs.Sets.{difference}
 use Rattle.sets.specs.Stored.{width, number}
-use Rattle.boards.specs.Over.{Narrowed}
 use Rattle.boards.proofs.Over.{over-less, by_difference, narrowed-start, narrowed-step, narrowed-end, narrowed_none}
-use Rattle.boards.proofs.Pairs.{pair_test, pair-here, some_pair, some-pair-all}
+use Rattle.boards.proofs.Pairs.{pair-here, some_pair, some-pair-all}
 use Rattle.boards.proofs.in_some_pair.Goals as goal
 
 pub loop-x-init : goal.loop-x-init

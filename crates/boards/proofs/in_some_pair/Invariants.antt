@@ -1,15 +1,9 @@
 -- The people with whom some pair is in the relation: all but those with whom none is, one pair after the other.
-use mathlib.Core.Path.{◌≡◌, sym, ap, ◌∙◌}
 use mathlib.Core.Bool.{not}
-use native.Mathlib.Omega.{arith}
-use borrow.Author.Rules.{rules}
-use borrow.Author.Tests.{eqb-true}
-use Prim.Native.Nat.{ℕ, ◌<◌}
-use Rattle.sets.specs.Sets.{has, size, difference}
-use Rattle.sets.specs.Stored.{width, number}
+use Rattle.sets.specs.Sets.{size}
+use Rattle.sets.specs.Stored.{number}
 use Rattle.boards.specs.Over.{Narrowed}
-use Rattle.boards.proofs.Over.{over-less, by_difference, narrowed-start, narrowed-step, narrowed-end, narrowed_none}
-use Rattle.boards.proofs.Pairs.{pair_test, pair-here, some_pair, some-pair-all}
+use Rattle.boards.proofs.Pairs.{pair_test}
 use Rattle.boards.proofs.in_some_pair.Given as goal
 
 abbrev pub invariant-loop-x : goal.invariant-loop-x

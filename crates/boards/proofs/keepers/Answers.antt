@@ -1,6 +1,5 @@
 -- The test of a single rule, one case for each form.
 use native.Mathlib.Omega.{arith}
-use borrow.Author.Rules.{rules}
 use Rattle.boards.proofs.Pairs.{kept-some, kept-every}
 use Rattle.boards.proofs.keepers.Goals as goal
 

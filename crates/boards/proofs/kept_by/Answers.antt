@@ -1,6 +1,5 @@
 -- The test of a single rule: the one pair, or the case of its form.
 use native.Mathlib.Omega.{arith}
-use borrow.Author.Rules.{rules}
 use Rattle.sets.specs.Stored.{number}
 use Rattle.boards.proofs.Over.{one-member}
 use Rattle.boards.proofs.Pairs.{kept-one}

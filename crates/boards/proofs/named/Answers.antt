@@ -1,5 +1,4 @@
 use Rattle.boards.specs.Board.{named_on}
-use borrow.Author.Rules.{rules}
 use Rattle.boards.proofs.named.Goals as goal
 
 pub returns : goal.returns

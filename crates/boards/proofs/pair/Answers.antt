@@ -3,7 +3,6 @@ use mathlib.Core.Bool.{Bool}
 use Rattle.sets.specs.Sets.{set_of}
 use Rattle.sets.specs.Stored.{width}
 use Rattle.boards.proofs.Pairs.{pair-next, pair-column, pair_row, pair-filled}
-use borrow.Author.Rules.{rules}
 use Rattle.boards.proofs.pair.Goals as goal
 
 pub returns-then-x-s : goal.returns-then-x-s

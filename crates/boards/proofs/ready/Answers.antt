@@ -1,5 +1,4 @@
 use Rattle.boards.proofs.Halves.{ready-is}
-use borrow.Author.Rules.{rules}
 use Rattle.boards.proofs.ready.Goals as goal
 
 pub returns : goal.returns

@@ -1,5 +1,4 @@
 use mathlib.Core.Path.{ap, ◌∙◌}
-use borrow.Author.Rules.{rules}
 use Rattle.boards.specs.Board.{unpacked, rule_on}
 use Rattle.boards.proofs.rule.Goals as goal
 
