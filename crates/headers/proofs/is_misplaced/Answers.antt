@@ -1,0 +1,7 @@
+use Rattle.headers.specs.Checks.{misplaced}
+use borrow.Author.Rules.{rules}
+use Rattle.headers.proofs.is_misplaced.Goals as goal
+
+pub returns : goal.returns
+unfolding misplaced
+returns c = cc
