@@ -1,16 +1,9 @@
 use mathlib.Core.Path.{ap, ◌∙◌}
-use mathlib.Core.Bool.{◌&&◌}
-use Prim.Native.Nat.{◌-◌}
-use lib.Dec.{ltb}
-use lib.ListN.{get_or}
-use Rattle.sets.specs.Sets.{meets}
 use Rattle.sets.specs.Stored.{width, number}
 use Rattle.sets.proofs.Records.{number-none}
-use Rattle.cases.specs.Case.{most_roles}
-use Rattle.pieces.specs.Pieces.{Collected, allowed_in}
+use Rattle.pieces.specs.Pieces.{allowed_in}
 use Rattle.pieces.proofs.Rows.{among-start, among-step, among-end}
 use native.Mathlib.Omega.{arith}
-use borrow.Author.Rules.{rules}
 use Rattle.pieces.proofs.allowed.Goals as goal
 
 pub loop-u-init : goal.loop-u-init

@@ -5,7 +5,6 @@ use Rattle.sets.proofs.Masks.{shl_one}
 use mathlib.Core.Path.{sym, ap, ◌∙◌}
 use Rattle.pieces.specs.Pieces.{preceding_in}
 use Rattle.pieces.proofs.Preceding.{before-listed}
-use borrow.Author.Rules.{rules}
 use Rattle.pieces.proofs.before.Goals as goal
 
 pub overflow_sub-result : goal.overflow_sub-result

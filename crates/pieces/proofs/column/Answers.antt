@@ -1,6 +1,5 @@
 use native.Mathlib.Omega.{arith}
 use Rattle.pieces.proofs.Columns.{column-row, column-gathered}
-use borrow.Author.Rules.{rules}
 use Rattle.pieces.proofs.column.Goals as goal
 
 pub returns-then-k-lt2 : goal.returns-then-k-lt2

@@ -4,7 +4,6 @@ use native.Mathlib.Omega.{arith}
 use lib.Pow.{pow_pos}
 use Rattle.sets.proofs.Masks.{shl_one, everybody-low, everybody-all}
 use Rattle.cases.specs.Case.{most_rules}
-use borrow.Author.Rules.{rules}
 use Rattle.pieces.proofs.first_of.Goals as goal
 
 pub overflow_sub-result : goal.overflow_sub-result

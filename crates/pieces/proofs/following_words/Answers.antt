@@ -1,9 +1,6 @@
-use Prim.Native.Nat.{◌-◌, ◌≤◌}
 use mathlib.Core.Path.{refl}
-use Rattle.pieces.specs.Pieces.{preceded_by, Waiting}
 use Rattle.pieces.proofs.Waiting.{waiting-start, waiting-step, waiting-end}
 use native.Mathlib.Omega.{arith}
-use borrow.Author.Rules.{rules}
 use Rattle.pieces.proofs.following_words.Goals as goal
 
 pub loop-s-init : goal.loop-s-init

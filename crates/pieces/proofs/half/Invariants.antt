@@ -1,10 +1,6 @@
 use Prim.Native.Nat.{◌-◌}
-use mathlib.Core.Path.{refl}
 use Rattle.boards.specs.Board.{half_steps}
 use Rattle.pieces.specs.Pieces.{Halved}
-use Rattle.pieces.proofs.Halving.{half-start, step-halved, half-end}
-use native.Mathlib.Omega.{arith}
-use borrow.Author.Rules.{rules}
 use Rattle.pieces.proofs.half.Given as goal
 
 abbrev pub invariant-loop-x : goal.invariant-loop-x

@@ -1,14 +1,9 @@
 use mathlib.Core.Path.{ap, ◌∙◌}
-use Prim.Native.Nat.{◌-◌}
-use Rattle.sets.specs.Sets.{has}
-use Rattle.sets.specs.Stored.{width, number, set_at}
+use Rattle.sets.specs.Stored.{width, number}
 use Rattle.sets.proofs.Records.{number-none}
-use Rattle.cases.specs.Case.{most_people}
-use Rattle.boards.specs.Board.{row_place}
-use Rattle.pieces.specs.Pieces.{having_in, Collected}
+use Rattle.pieces.specs.Pieces.{having_in}
 use Rattle.pieces.proofs.Collecting.{has_in, collect-start, collect-step, collect-end}
 use native.Mathlib.Omega.{arith}
-use borrow.Author.Rules.{rules}
 use Rattle.pieces.proofs.having_themselves.Goals as goal
 
 pub loop-u-init : goal.loop-u-init

@@ -1,4 +1,3 @@
-use borrow.Author.Rules.{rules}
 use Rattle.pieces.proofs.less_unless.Goals as goal
 
 pub returns-else-stay : goal.returns-else-stay

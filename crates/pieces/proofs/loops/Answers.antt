@@ -2,7 +2,6 @@ use mathlib.Core.Path.{ap, ◌∙◌}
 use Rattle.sets.specs.Stored.{number}
 use Rattle.sets.proofs.Records.{number-none}
 use Rattle.pieces.proofs.Columns.{loops-same, loops-different, loops-table}
-use borrow.Author.Rules.{rules}
 use Rattle.pieces.proofs.loops.Goals as goal
 
 pub returns-in-0 : goal.returns-in-0

@@ -1,9 +1,5 @@
 use Prim.Native.Nat.{◌-◌, ◌≤◌}
-use mathlib.Core.Path.{refl}
 use Rattle.pieces.specs.Pieces.{named_by, Waiting}
-use Rattle.pieces.proofs.Waiting.{waiting-start, waiting-step, waiting-end}
-use native.Mathlib.Omega.{arith}
-use borrow.Author.Rules.{rules}
 use Rattle.pieces.proofs.named_words.Given as goal
 
 abbrev pub invariant-loop-i : goal.invariant-loop-i

@@ -1,6 +1,5 @@
 use mathlib.Core.Path.{refl}
 use Rattle.pieces.specs.Pieces.{packed}
-use borrow.Author.Rules.{rules}
 use Rattle.pieces.proofs.pack.Goals as goal
 
 pub returns : goal.returns

@@ -4,7 +4,6 @@ use mathlib.Core.Path.{ap, ◌∙◌}
 use Rattle.sets.specs.Stored.{number}
 use Rattle.sets.proofs.Records.{number-none}
 use Rattle.pieces.proofs.Rows.{most, same_row, different-row, table-row}
-use borrow.Author.Rules.{rules}
 use Rattle.pieces.proofs.row.Goals as goal
 
 pub returns-then-k-eq0 : goal.returns-then-k-eq0

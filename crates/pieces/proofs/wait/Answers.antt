@@ -1,10 +1,6 @@
-use Prim.Native.Nat.{◌-◌}
-use Rattle.cases.specs.Case.{most_steps}
-use Rattle.pieces.specs.Pieces.{waiting_on, Put}
 use Rattle.pieces.proofs.Writing.{put-start, put_step, put-end}
 use Rattle.pieces.proofs.Waiting.{wait-here}
 use native.Mathlib.Omega.{arith}
-use borrow.Author.Rules.{rules}
 use Rattle.pieces.proofs.wait.Goals as goal
 
 pub loop-x-init : goal.loop-x-init

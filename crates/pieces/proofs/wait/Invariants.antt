@@ -1,10 +1,6 @@
 use Prim.Native.Nat.{◌-◌}
 use Rattle.cases.specs.Case.{most_steps}
 use Rattle.pieces.specs.Pieces.{waiting_on, Put}
-use Rattle.pieces.proofs.Writing.{put-start, put_step, put-end}
-use Rattle.pieces.proofs.Waiting.{wait-here}
-use native.Mathlib.Omega.{arith}
-use borrow.Author.Rules.{rules}
 use Rattle.pieces.proofs.wait.Given as goal
 
 abbrev pub invariant-loop-x : goal.invariant-loop-x

@@ -1,5 +1,4 @@
 use mathlib.Core.Path.{sym, ◌∙◌}
-use borrow.Author.Rules.{rules}
 use Rattle.pieces.proofs.with_if_in.Goals as goal
 
 pub returns-then-holds : goal.returns-then-holds
