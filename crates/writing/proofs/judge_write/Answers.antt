@@ -1,6 +1,5 @@
 -- `judge_write` judges the case, then the room.
 use mathlib.Core.Path.{refl}
-use borrow.Author.Rules.{rules}
 use Rattle.writing.proofs.Judged.{case-then-room}
 use Rattle.writing.proofs.judge_write.Goals as goal
 

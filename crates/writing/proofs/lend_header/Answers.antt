@@ -1,6 +1,5 @@
 -- `lend_header`: what comes back in the header's stretch is all that has changed.
 use mathlib.Core.Path.{refl}
-use borrow.Author.Rules.{rules}
 use Rattle.writing.proofs.lend_header.Goals as goal
 
 pub returns : goal.returns

@@ -1,7 +1,6 @@
 -- `put_rule`: four stores, one after the other.
 use native.Mathlib.Numerals.{towards_suc}
 use native.Mathlib.Omega.{arith}
-use borrow.Author.Rules.{rules}
 use lib.ListN.{length-set}
 use Rattle.writing.proofs.put_rule.Goals as goal
 

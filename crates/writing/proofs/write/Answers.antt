@@ -1,13 +1,8 @@
 -- `write` answers and leaves what the definition says, refused or not.
-use mathlib.Core.Path.{◌≡◌, sym, ◌∙◌, ap}
+use mathlib.Core.Path.{sym, ◌∙◌, ap}
 use native.Mathlib.Omega.{arith}
-use borrow.Author.Rules.{rules}
-use lib.ListN.{length}
-use Rattle.refusals.specs.declared.Judged.TheVariants.{Good}
-use Rattle.refusals.specs.CaseChecks.{Limited}
 use Rattle.refusals.proofs.Cases.{good-limited}
 use Rattle.writing.specs.declared.Written.TheVariants.{Bytes}
-use Rattle.writing.specs.Writing.{judged_write}
 use Rattle.writing.proofs.Laws.{rows-most}
 use Rattle.writing.proofs.Judged.{write-good, good-leaves, refused-leaves}
 use Rattle.writing.proofs.write.Goals as goal

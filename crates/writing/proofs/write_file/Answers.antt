@@ -1,5 +1,4 @@
 -- `write_file`: the header and the parts, each in its own stretch, make the file.
-use borrow.Author.Rules.{rules}
 use Rattle.writing.proofs.Laws.{filled}
 use Rattle.writing.proofs.write_file.Goals as goal
 

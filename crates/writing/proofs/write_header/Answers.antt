@@ -1,7 +1,6 @@
 -- `write_header`: the offsets and the total fit into 16 bits, and the twelve numbers are the header's.
 use mathlib.Core.Path.{◌∙◌}
 use native.Mathlib.Omega.{arith}
-use borrow.Author.Rules.{rules}
 use Rattle.words.specs.Part.{run}
 use Rattle.writing.proofs.Laws.{rows-most}
 use Rattle.writing.proofs.write_header.Goals as goal

@@ -1,6 +1,5 @@
 -- `write_part`: each part's stretch is as long as its entries, and comes back as their bytes.
 use native.Mathlib.Omega.{arith}
-use borrow.Author.Rules.{rules}
 use Rattle.writing.proofs.Laws.{rows-most, stretch-of}
 use Rattle.writing.proofs.write_part.Goals as goal
 

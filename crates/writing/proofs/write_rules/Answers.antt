@@ -1,12 +1,7 @@
 -- `write_rules`: the loop that writes entries, for rules.
-use Prim.Native.Nat.{◌-◌}
 use mathlib.Core.Path.{refl}
 use native.Mathlib.Omega.{arith}
-use lib.ListN.{get_or}
-use Rattle.cases.specs.Case.{zero_rule}
-use Rattle.words.specs.Part.{Written}
 use Rattle.words.proofs.Parts.{write-start, write_step, write-end}
-use Rattle.layout.specs.Layout.{bytes_of_rule}
 use Rattle.writing.proofs.write_rules.Goals as goal
 
 pub loop-i-init : goal.loop-i-init

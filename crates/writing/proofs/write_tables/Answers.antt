@@ -1,12 +1,7 @@
 -- `write_tables`: the loop that writes entries, for table rows.
-use Prim.Native.Nat.{◌-◌}
 use mathlib.Core.Path.{refl}
 use native.Mathlib.Omega.{arith}
-use lib.ListN.{get_or}
-use Rattle.sets.specs.Stored.{no_people}
-use Rattle.words.specs.Part.{Written}
 use Rattle.words.proofs.Parts.{write-start, write_step, write-end}
-use Rattle.layout.specs.Layout.{bytes_of_row}
 use Rattle.writing.proofs.write_tables.Goals as goal
 
 pub loop-i-init : goal.loop-i-init

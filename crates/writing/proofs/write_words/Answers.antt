@@ -1,11 +1,7 @@
 -- `write_words`: the loop that writes entries, for 16-bit numbers.
-use Prim.Native.Nat.{◌-◌}
 use mathlib.Core.Path.{refl}
 use native.Mathlib.Omega.{arith}
-use lib.ListN.{get_or}
-use Rattle.words.specs.Part.{Written}
 use Rattle.words.proofs.Parts.{write-start, write_step, write-end}
-use Rattle.words.specs.Word.{le2}
 use Rattle.writing.proofs.write_words.Goals as goal
 
 pub loop-i-init : goal.loop-i-init
