@@ -1,4 +1,3 @@
-use borrow.Author.Rules.{rules}
 use Rattle.headers.proofs.counts.Goals as goal
 
 pub returns : goal.returns

@@ -1,5 +1,4 @@
 use Rattle.headers.specs.Checks.{misplaced}
-use borrow.Author.Rules.{rules}
 use Rattle.headers.proofs.is_misplaced.Goals as goal
 
 pub returns : goal.returns

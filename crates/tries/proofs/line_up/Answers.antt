@@ -4,7 +4,6 @@ use native.Mathlib.Omega.{arith}
 use Rattle.tries.proofs.Agreeing.{step-agree}
 use Rattle.tries.proofs.Lines.{line-is, line-none}
 use Rattle.tries.proofs.Turns.{nobody-shown}
-use borrow.Author.Rules.{rules}
 use Rattle.tries.proofs.line_up.Goals as goal
 
 pub returns-then-at-ge-STEPS : goal.returns-then-at-ge-STEPS

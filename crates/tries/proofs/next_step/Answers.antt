@@ -1,5 +1,4 @@
 use Rattle.tries.proofs.Lines.{step-found}
-use borrow.Author.Rules.{rules}
 use Rattle.tries.proofs.next_step.Goals as goal
 
 pub returns : goal.returns

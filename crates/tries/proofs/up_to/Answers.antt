@@ -2,7 +2,6 @@ use mathlib.Core.Path.{ap, ◌∙◌}
 use Prim.Native.Nat.{ℕ}
 use Rattle.sets.specs.Sets.{difference}
 use Rattle.sets.specs.Stored.{width, number}
-use borrow.Author.Rules.{rules}
 use Rattle.tries.proofs.up_to.Goals as goal
 
 pub returns : goal.returns

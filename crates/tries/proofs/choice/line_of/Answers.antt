@@ -1,7 +1,6 @@
 -- The line of a step, the same from every position that agrees at the steps looked at.
 use mathlib.Core.Path.{ap, ap₂, ◌∙◌}
 use Prim.Native.Nat.{ℕ}
-use borrow.Author.Rules.{rules}
 use Rattle.sets.specs.Sets.{common}
 use Rattle.sets.specs.Stored.{width}
 use Rattle.boards.specs.Board.{fits_on}

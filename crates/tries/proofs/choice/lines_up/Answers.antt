@@ -1,14 +1,8 @@
 -- A line for each step that is ready, one after the other, the same from every position that agrees at the steps looked at.
-use mathlib.Core.Path.{◌≡◌, refl, sym, ap, ◌∙◌}
-use Prim.Native.Nat.{◌-◌}
+use mathlib.Core.Path.{◌≡◌, refl, sym, ◌∙◌}
 use native.Mathlib.Omega.{arith}
-use borrow.Author.Rules.{rules}
-use Rattle.sets.specs.Sets.{has}
-use Rattle.cases.specs.declared.Filled.{Filled}
-use Rattle.boards.specs.Looked.{Agree}
 use Rattle.boards.proofs.Looked.{agree_same, agree_left, agree_right, ready-agree}
-use Rattle.lines.proofs.Filling.{Filling, filling-start, filling-more, filling-same}
-use Rattle.tries.specs.Choices.{line_on}
+use Rattle.lines.proofs.Filling.{filling-start, filling-more, filling-same}
 use Rattle.tries.proofs.Choosing.{lines-ready}
 use Rattle.tries.proofs.choice.lines_up.Goals as goal
 

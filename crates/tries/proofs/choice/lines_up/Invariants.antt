@@ -1,15 +1,10 @@
 -- A line for each step that is ready, one after the other, the same from every position that agrees at the steps looked at.
-use mathlib.Core.Path.{◌≡◌, refl, sym, ap, ◌∙◌}
 use Prim.Native.Nat.{◌-◌}
-use native.Mathlib.Omega.{arith}
-use borrow.Author.Rules.{rules}
 use Rattle.sets.specs.Sets.{has}
 use Rattle.cases.specs.declared.Filled.{Filled}
 use Rattle.boards.specs.Looked.{Agree}
-use Rattle.boards.proofs.Looked.{agree_same, agree_left, agree_right, ready-agree}
-use Rattle.lines.proofs.Filling.{Filling, filling-start, filling-more, filling-same}
+use Rattle.lines.proofs.Filling.{Filling}
 use Rattle.tries.specs.Choices.{line_on}
-use Rattle.tries.proofs.Choosing.{lines-ready}
 use Rattle.tries.proofs.choice.lines_up.Given as goal
 
 abbrev pub invariant-loop-s : goal.invariant-loop-s

@@ -2,11 +2,6 @@ use mathlib.Core.Path.{sym, ap, ◌∙◌}
 use Rattle.tries.specs.Alike.{spent_outcome}
 use Rattle.tries.proofs.Turns.{nobody-shown}
 use Rattle.tries.proofs.Good.{bad-limit, bad-all}
-use borrow.Author.Rules.{rules}
-use Rattle.tries.proofs.everyone.all_bad.Reads as reads
-use Rattle.tries.proofs.everyone.all_bad.Lts as lts
-use Rattle.sets.proofs.People.none.Reads as none_reads
-use Rattle.tries.proofs.everyone.rest_alike.Reads as rest-alike-reads
 use Rattle.tries.proofs.everyone.all_bad.Goals as goal
 
 pub returns-in-Limit : goal.returns-in-Limit

@@ -2,13 +2,6 @@ use mathlib.Core.Path.{sym, ap, ◌∙◌}
 use native.Mathlib.Omega.{arith}
 use Rattle.tries.specs.Alike.{spent_outcome}
 use Rattle.tries.proofs.Good.{good-limit, good-all, good-over, good-within, good-small, before_small}
-use borrow.Author.Rules.{rules}
-use Rattle.tries.proofs.everyone.all_good.Reads as reads
-use Rattle.tries.proofs.everyone.all_good.Lts as lts
-use Rattle.sets.proofs.People.before.Reads as before-reads
-use Rattle.sets.proofs.People.size.Reads as size-reads
-use Rattle.tries.proofs.everyone.member_at.Reads as member-at-reads
-use Rattle.tries.proofs.everyone.rest_alike.Reads as rest-alike-reads
 use Rattle.tries.proofs.everyone.all_good.Goals as goal
 
 pub returns-in-Limit : goal.returns-in-Limit

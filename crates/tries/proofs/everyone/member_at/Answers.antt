@@ -1,13 +1,7 @@
-use mathlib.Core.Path.{◌≡◌, refl, sym, ap, ◌∙◌}
+use mathlib.Core.Path.{refl, sym, ap, ◌∙◌}
 use native.Mathlib.Omega.{arith}
-use borrow.Author.Rules.{rules}
-use Rattle.sets.specs.Stored.{number, lowest_number}
-use Rattle.tries.specs.Alike.{member_at}
+use Rattle.sets.specs.Stored.{lowest_number}
 use Rattle.tries.proofs.Good.{at_none, at_first, at_next}
-use Rattle.tries.proofs.everyone.member_at.Reads as reads
-use Rattle.tries.proofs.everyone.member_at.Lts as lts
-use Rattle.sets.proofs.People.lowest.Reads as lowest-reads
-use Rattle.sets.proofs.People.without.Reads as without-reads
 use Rattle.tries.proofs.everyone.member_at.Goals as goal
 
 pub loop-v-init : goal.loop-v-init

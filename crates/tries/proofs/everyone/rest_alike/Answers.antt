@@ -1,9 +1,5 @@
 use native.Mathlib.Omega.{arith}
 use Rattle.tries.proofs.Alike.{judgings-small, spent-over, spent-within}
-use borrow.Author.Rules.{rules}
-use Rattle.tries.proofs.everyone.rest_alike.Reads as reads
-use Rattle.tries.proofs.everyone.rest_alike.Lts as lts
-use Rattle.sets.proofs.People.size.Reads as size-reads
 use Rattle.tries.proofs.everyone.rest_alike.Goals as goal
 
 pub overflow_mul-all : goal.overflow_mul-all
