@@ -7,7 +7,7 @@ use Prim.Native.Nat.{ℕ, suc, ◌+◌, ◌-◌, ◌*◌, ◌^◌, ◌≤◌, �
 use native.Mathlib.Omega.{arith}
 use lib.Dec.{eqb}
 use Rattle.sets.specs.Lists.{pick}
-use Rattle.sets.specs.Sets.{has, size, lowest, with, without, difference}
+use Rattle.sets.specs.Sets.{has, size, lowest, without, difference}
 use Rattle.sets.specs.Stored.{width, number}
 use Rattle.sets.specs.declared.People.{People}
 use Rattle.sets.proofs.Counting.{has-set_of}

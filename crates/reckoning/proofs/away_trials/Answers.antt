@@ -2,7 +2,6 @@ use native.Mathlib.Omega.{arith}
 use Rattle.sets.specs.Stored.{number}
 use Rattle.sums.proofs.Joins.{size-wide}
 use Rattle.reckoning.proofs.Answers.{once-small, once-fits, away-tells}
-use borrow.Author.Rules.{rules}
 use Rattle.reckoning.proofs.away_trials.Goals as goal
 
 pub overflow_sub-t : goal.overflow_sub-t

@@ -1,5 +1,4 @@
 use Rattle.reckoning.proofs.Answers.{comes-limit, comes-yes}
-use borrow.Author.Rules.{rules}
 use Rattle.reckoning.proofs.tell.Goals as goal
 
 pub returns-then-limit-trials : goal.returns-then-limit-trials

@@ -1,0 +1,21 @@
+-- The invariant: the entries before i are placed.
+use Prim.Native.Nat.{◌-◌}
+use native.Mathlib.Omega.{arith}
+use borrow.Author.Rules.{rules}
+use Rattle.asking.proofs.Steps.{Placed, placed-start, placed-step, placed-all}
+use Rattle.asking.proofs.filled.Goals as goal
+
+pub loop-i-init : goal.loop-i-init
+loop-i-init c = placed-start _ c.start-q.ensures
+
+pub overflow_add-i : goal.overflow_add-i
+overflow_add-i c = omega arith
+
+pub loop-i-smaller : goal.loop-i-smaller
+loop-i-smaller c = omega arith
+
+pub loop-i-preserved : goal.loop-i-preserved
+loop-i-preserved c = placed-step _ c.loop-i.invariant c.loop-i-test.true c.person.ensures c.placed-q.ensures
+
+pub returns : goal.returns
+returns c = placed-all _ c.loop-i.invariant c.loop-i-test.false
