@@ -1,4 +1,3 @@
-use borrow.Author.Rules.{rules}
 use Rattle.asking.proofs.Steps.{next-unknown, next-barred, next_last}
 use Rattle.asking.proofs.bad_next.Goals as goal
 
@@ -11,5 +10,5 @@ returns-then-not-has c =
 
 pub returns : goal.returns
 returns c =
-    next_last _ _ _ _ _ c.if-people-v.false c.allowed-able.ensures c.has.ensures c.if-not-has.false-raw c.fits2.ensures
+    next_last _ _ _ _ _ c.if-people-v.false c.allowed-able.ensures c.has.ensures c.if-not-has.false-raw c.fits.ensures
     c.has-2.ensures

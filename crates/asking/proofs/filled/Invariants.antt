@@ -1,8 +1,6 @@
 -- The invariant: the entries before i are placed.
 use Prim.Native.Nat.{◌-◌}
-use native.Mathlib.Omega.{arith}
-use borrow.Author.Rules.{rules}
-use Rattle.asking.proofs.Steps.{Placed, placed-start, placed-step, placed-all}
+use Rattle.asking.proofs.Steps.{Placed}
 use Rattle.asking.proofs.filled.Given as goal
 
 abbrev pub invariant-loop-i : goal.invariant-loop-i

@@ -1,4 +1,3 @@
-use borrow.Author.Rules.{rules}
 use Rattle.asking.proofs.Steps.{absent-unknown, absent-many}
 use Rattle.asking.proofs.judge_absent.Goals as goal
 

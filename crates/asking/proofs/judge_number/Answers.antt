@@ -1,4 +1,3 @@
-use borrow.Author.Rules.{rules}
 use Rattle.asking.specs.Asking.{number_check}
 use Rattle.asking.proofs.judge_number.Goals as goal
 

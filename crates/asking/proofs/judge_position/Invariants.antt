@@ -1,8 +1,6 @@
 -- The invariant: the entries passed are those of the shorter position, and none of them failed.
 use Prim.Native.Nat.{◌-◌}
-use native.Mathlib.Omega.{arith}
-use borrow.Author.Rules.{rules}
-use Rattle.asking.proofs.Steps.{Passed, passed_start, passed-step, position-long, position-hit, position-end}
+use Rattle.asking.proofs.Steps.{Passed}
 use Rattle.asking.proofs.judge_position.Given as goal
 
 abbrev pub invariant-loop-i : goal.invariant-loop-i
