@@ -4,25 +4,12 @@ use mathlib.Core.Path.{subst⁻¹}
 use Prim.Native.Nat.{ℕ, ◌+◌, ◌*◌, ◌^◌, ◌<◌}
 use native.Mathlib.Nat.{le_of_lt, lt_of_le_of_lt, mul-le-mul_left, mul-lt-mul_of_pos_right}
 use lib.Pow.{pow_pos, pow-add}
-use Rattle.second_files.proofs.numbers.times.Statement.{statement}
-use Rattle.second_files.proofs.numbers.times.Tie as tie
+use Rattle.second_files.proofs.numbers.times.Goals as goal
 
 below : (k : ℕ) {a b : ℕ} → a < 2 ^ k → b < 2 ^ k → a * b < 2 ^ (k + k)
 below k {a} {b} ha hb =
     subst⁻¹ (λ (n : ℕ). a * b < n) (pow-add 2 k k)
     (lt_of_le_of_lt (mul-le-mul_left a (le_of_lt hb)) (mul-lt-mul_of_pos_right ha (pow_pos k)))
 
-mul-result : tie.Need-overflow-mul-result
-mul-result c = record { fits = below 32 (search rules) (search rules) }
-
-returns : tie.Need-returns
-returns c = search rules
-
-returns-2 : tie.Need-returns-2
-returns-2 c = search rules
-
-returns-3 : tie.Need-returns-3
-returns-3 c = search rules
-
-pub times-spec : {M : Type 1} → statement M
-times-spec = tie.close (tie.spec mul-result returns returns-2 returns-3)
+pub overflow_mul-result : goal.overflow_mul-result
+overflow_mul-result c = record { fits = below 32 (search rules) (search rules) }
