@@ -1,6 +1,6 @@
 -- Positions that agree at the steps looked at: the same steps are ready, the same rules are due, and the tests that asked for these steps alone end the same.
 use mathlib.Core.Path.{◌≡◌, refl, sym, ap, ap₂, ◌∙◌}
-use mathlib.Core.Bool.{Bool, true, false, ◌&&◌, ◌||◌, true≢false}
+use mathlib.Core.Bool.{Bool, true, false, ◌||◌, true≢false}
 use mathlib.Core.List.{List}
 use Prim.Native.Nat.{ℕ, ◌≤◌, ◌<◌}
 use native.Mathlib.Decide.{dec_lt, ℕ_discrete}
@@ -9,11 +9,11 @@ use borrow.Author.Tests.{eq-eqb, lt-ltb, le-ltb}
 use lib.Dec.{eqb, ltb}
 use lib.ListN.{length, length-set, get_or, set, get_or-eq_default}
 use lib.Seq.{get_or-set_same, get_or-set_other, ext_get_or}
-use Rattle.sets.specs.Lists.{pick, all}
-use Rattle.sets.specs.Sets.{has, set_of, members, common, joined, with}
+use Rattle.sets.specs.Lists.{pick}
+use Rattle.sets.specs.Sets.{has, set_of, members, joined, with}
 use Rattle.sets.specs.Stored.{width, set_at}
-use Rattle.sets.proofs.Lists.{true-or, all-cong}
-use Rattle.sets.proofs.Counting.{has-set_of, set_of-ext}
+use Rattle.sets.proofs.Lists.{true-or}
+use Rattle.sets.proofs.Counting.{has-set_of}
 use Rattle.sets.proofs.Members.{members-in}
 use Rattle.cases.specs.declared.Filled.{Filled}
 use Rattle.cases.specs.declared.Person.{Person}

@@ -17,7 +17,7 @@ use Rattle.cases.specs.Case.{most_steps, most_rules}
 use Rattle.cases.specs.Rules.{steps_in}
 use Rattle.cases.specs.Filled.{who_in}
 use Rattle.cases.proofs.Rules.{needed-as-one}
-use Rattle.boards.specs.Board.{row_place, column_place, loops_place, rule_on, full_on, due_on, pair_on, every_pair_on, some_pair_on, kept_on, fits_on}
+use Rattle.boards.specs.Board.{row_place, column_place, loops_place, rule_on, due_on, pair_on, every_pair_on, some_pair_on, kept_on, fits_on}
 use Rattle.boards.specs.Looked.{Agree}
 use Rattle.boards.proofs.Looked.{due-agree, kept-agree}
 

@@ -1,5 +1,5 @@
 -- The arena of a board: a position is which steps are filled and by whom, and a move is a step done by a person.
-use Rattle.std.specs.Prelude.{Bool, ◌&&◌, List, map, ℕ}
+use Rattle.std.specs.Prelude.{◌&&◌, List, map, ℕ}
 use Rattle.sets.specs.Lists.{only_if, upto, keep}
 use Rattle.sets.specs.Sets.{has}
 use Rattle.games.specs.Arena.{Arena}

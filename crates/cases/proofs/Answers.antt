@@ -2,23 +2,21 @@
 -- five questions.
 use mathlib.Core.Path.{◌≡◌, refl, sym, ap, ap₂, ◌∙◌, subst, subst₂}
 use mathlib.Core.Logic.{◌⊎◌, inl, inr, ◌↔◌}
-use mathlib.Core.Option.{Option, none, some, none-ne-some, some-ne-none}
-use mathlib.Core.Bool.{Bool, true, false}
+use mathlib.Core.Option.{Option, none, some, none-ne-some}
 use mathlib.Core.List.{List, [], ◌∷◌, ◌++◌, append-nil}
 use Prim.Native.Nat.{ℕ, zero, suc, ◌+◌, ◌-◌, ◌≤◌, ◌<◌}
 use native.Mathlib.Decide.{dec_lt}
 use native.Mathlib.Omega.{arith}
 use lib.ListN.{length, get_or, take, drop, length-append, length-drop, take-append-drop}
 use lib.Seq.{take_all, take-suc, take-append_seam, drop-cons, get_or-append_seam, append_snoc}
-use Rattle.sets.specs.Sets.{has}
 use Rattle.sets.proofs.Lists.{lt-or-eq}
 use Rattle.sets.proofs.Bits.{has-empty}
 use Rattle.games.specs.Arena.{Round}
-use Rattle.games.specs.Walks.{Search, Yes, No, plan, static, decremental, one_shot, dynamic}
-use Rattle.games.specs.Games.{Absent, Contains, Line, Planned, Static, Decremental, OneShot, Dynamic}
-use Rattle.games.specs.Good.{Earliest, First}
+use Rattle.games.specs.Walks.{Search, Yes, No, decremental, one_shot}
+use Rattle.games.specs.Games.{Absent, Line, Decremental, OneShot, Dynamic}
+use Rattle.games.specs.Good.{First}
 use Rattle.games.proofs.Verdicts.{nobody, contains-empty, plan-exactly, plan-first, static-exactly, StaticShown, static-shown, decremental-exactly, decremental-shown}
-use Rattle.games.proofs.Good.{dynamic-exactly, dynamic-shown}
+use Rattle.games.proofs.Good.{dynamic-exactly}
 use Rattle.games.proofs.Chain.{dynamic→decremental, decremental→one_shot, one_shot→static, static→planned}
 use Rattle.games.proofs.Strikes.{PassAnswered, OneShotShown, one_shot-exactly, one_shot-shown, empty-is-pass}
 use Rattle.games.proofs.Matched.{Matches, decremental-matched, one_shot-matched, dynamic-matched}
@@ -28,7 +26,7 @@ use Rattle.cases.specs.Plans.{Valid, Plan, Without, FirstPlan}
 use Rattle.cases.specs.Questions.{HasPlan, StaticYes, Placed, DecrementalYes, OneShotYes, DynamicYes}
 use Rattle.cases.specs.Shown.{StaticNo, Answers, DecrementalNo, AnswersPass, FirstStrike, OneShotNo}
 use Rattle.cases.specs.Chain.{chain, plan_of, static_of, decremental_of, one_shot_of, dynamic_of}
-use Rattle.cases.proofs.Rounds.{start-valid, prefix-valid, valid-short, round-placed, placed-round, round-placed-person, placed-round-person, line-valid, valid-line, without-start, planned-plan}
+use Rattle.cases.proofs.Rounds.{start-valid, prefix-valid, round-placed, placed-round, round-placed-person, placed-round-person, line-valid, valid-line, without-start, planned-plan}
 
 -- ---- the two notions of a round give the same games
 

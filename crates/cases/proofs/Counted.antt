@@ -1,7 +1,6 @@
 -- Nothing above a count matters: two cases with the same counts and the same entries below them have the same chain, and so the same walks.
 use mathlib.Core.Path.{◌≡◌, refl, sym, ap, ap₂, ◌∙◌, fun_ext}
-use mathlib.Core.Logic.{◌⊎◌, inl, inr}
-use mathlib.Core.Bool.{Bool, true, false, not, ◌||◌}
+use mathlib.Core.Bool.{Bool, not, ◌||◌}
 use mathlib.Core.List.{List, [], ◌∷◌, ◌++◌, map}
 use Prim.Native.Nat.{ℕ, zero, suc, ◌+◌, ◌-◌, ◌*◌, ◌≤◌, ◌<◌}
 use native.Mathlib.Decide.{dec_lt}
@@ -13,7 +12,6 @@ use Rattle.sets.specs.Lists.{pick, only_if, cons_if, upto, all}
 use Rattle.sets.specs.Sets.{has, meets}
 use Rattle.sets.specs.Stored.{number, no_people}
 use Rattle.sets.proofs.Lists.{upto-in, all-cong}
-use Rattle.games.specs.Arena.{Arena}
 use Rattle.games.specs.Walks as walks
 use Rattle.cases.specs.declared.Counts.{Counts}
 use Rattle.cases.specs.declared.Rule.{Rule}

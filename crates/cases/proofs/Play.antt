@@ -1,16 +1,16 @@
 -- Playing the dynamic game for a case: what the verdict counts, what advice and away name at any position, and that a yes and a no can be played.
-use mathlib.Core.Path.{◌≡◌, refl, sym, ap, ap₂, ◌∙◌, subst, subst₂}
-use mathlib.Core.Logic.{◌⊎◌, inl, inr, ◌↔◌}
+use mathlib.Core.Path.{◌≡◌, refl, sym, ap, ◌∙◌, subst}
+use mathlib.Core.Logic.{◌↔◌}
 use mathlib.Core.Option.{Option, none, some, none-ne-some, some-ne-none, some-injective}
-use mathlib.Core.Bool.{Bool, true, false, not, true≢false}
+use mathlib.Core.Bool.{Bool, true, false, true≢false}
 use mathlib.Core.List.{List, [], ◌∷◌, ◌++◌}
 use Prim.Native.Nat.{ℕ, zero, suc, ◌+◌, ◌-◌, ◌^◌, ◌≤◌, ◌<◌}
-use native.Mathlib.Nat.{not-suc-le-zero, add-zero}
+use native.Mathlib.Nat.{not-suc-le-zero}
 use native.Mathlib.Decide.{dec_lt}
 use native.Mathlib.Omega.{arith}
 use lib.ListN.{length, get_or, take, drop, length-append, length-take, take-append-drop}
 use lib.Seq.{take-suc, take-length, get_or_at, append_snoc}
-use Rattle.sets.specs.Sets.{has, count, set_of, size}
+use Rattle.sets.specs.Sets.{has, size}
 use Rattle.sets.proofs.Bits.{has-empty}
 use Rattle.sets.proofs.Counting.{has-set_of, size-set_of, set_of-lt, count-ext, set-ext}
 use Rattle.games.specs.Walks.{Search, Yes, No, dynamic, advice, away}
@@ -19,11 +19,11 @@ use Rattle.games.specs.Games.{Absent, Dynamic}
 use Rattle.games.specs.Good.{can_leave, good, good_count, good_people}
 use Rattle.games.specs.Play.{AllAbsent}
 use Rattle.games.proofs.Searches.{can_leave-round, round-can_leave}
-use Rattle.games.proofs.Good.{dynamic-exactly, dynamic-good, dynamic-bad, dynamic-shown, good-exactly, good_more, good-few, good-away, good_people-absent}
-use Rattle.games.proofs.Play.{Advised, advice-some, advice-none, good-advised, away-some, away-none}
+use Rattle.games.proofs.Good.{dynamic-exactly, dynamic-bad, dynamic-shown, good-exactly, good_more, good-few, good-away, good_people-absent}
+use Rattle.games.proofs.Play.{advice-some, advice-none, good-advised, away-some, away-none}
 use Rattle.cases.specs.declared.Case.{Case}
 use Rattle.cases.specs.Case.{people, steps}
-use Rattle.cases.specs.Plans.{Valid, Plan, Without}
+use Rattle.cases.specs.Plans.{Valid, Plan}
 use Rattle.cases.specs.Questions.{Placed}
 use Rattle.cases.specs.Chain.{chain, person_of, dynamic_of, advice_at, away_at}
 use Rattle.cases.specs.Play.{WinsFrom, LeavesGood, GoodSet, Names, onward, follow, Dodges, Present}

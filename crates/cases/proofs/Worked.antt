@@ -10,7 +10,7 @@ use Rattle.sets.specs.Lists.{from, upto, keep, all, any}
 use Rattle.sets.specs.Sets.{has, count, set_from, size, members, within, meets, sets}
 use Rattle.sets.specs.Stored.{number, stored, no_people}
 use Rattle.games.specs.Walks.{plus, or_else, seek, try, if_none, mark, tally, too_few, present, tries, desk, plan, static, decremental, one_shot, dynamic}
-use Rattle.games.specs.Limit.{Ended, limit, ended, Answer, cut}
+use Rattle.games.specs.Limit.{Ended, limit, ended, cut}
 use Rattle.cases.specs.declared.Case.{Case}
 use Rattle.cases.specs.Case.{people, entry, roles_held, roles_for, row, rules, zero_step, zero_rule}
 use Rattle.cases.specs.Rules.{related, steps_in, needed, filled, kept, rules_hold}

@@ -1,8 +1,7 @@
 -- The case and its limits. Case entries above a count read as zero.
-use Rattle.std.specs.Prelude.{◌≡◌, ◌&&◌, List, map, ℕ, ◌+◌, ◌*◌, ◌<◌, ltb, get_or, replicate}
+use Rattle.std.specs.Prelude.{◌≡◌, List, map, ℕ, ◌+◌, ◌*◌, ◌<◌, ltb, get_or, replicate}
 use Rattle.sets.specs.Lists.{pick, upto}
 use Rattle.sets.specs.Stored.{number, no_people}
-use Rattle.sets.specs.declared.People.{People}
 use Rattle.cases.specs.declared.Counts.{Counts}
 use Rattle.cases.specs.declared.StepEntry.{StepEntry}
 use Rattle.cases.specs.declared.Rule.{Rule}

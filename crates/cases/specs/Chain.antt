@@ -1,5 +1,5 @@
 -- The arena of a case, steps as listed, and the walks on it.
-use Rattle.std.specs.Prelude.{Bool, true, false, List, [], ◌∷◌, ◌++◌, ℕ, ◌-◌, length}
+use Rattle.std.specs.Prelude.{List, [], ◌∷◌, ◌++◌, ℕ, ◌-◌, length}
 use Rattle.std.proofs.Math.Option.{Option, none, some}
 use Rattle.sets.specs.Lists.{only_if, cons_if}
 use Rattle.games.specs.Arena.{Arena}

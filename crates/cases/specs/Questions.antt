@@ -1,5 +1,5 @@
 -- The five questions.
-use Rattle.std.specs.Prelude.{◌≡◌, Bool, true, false, List, [], ◌∷◌, ◌++◌, ℕ}
+use Rattle.std.specs.Prelude.{◌≡◌, false, List, [], ◌∷◌, ◌++◌, ℕ}
 use Rattle.sets.specs.Sets.{has}
 use Rattle.games.specs.Games.{Absent, Decremental, OneShot, Dynamic}
 use Rattle.cases.specs.declared.Case.{Case}

@@ -8,7 +8,7 @@ use Rattle.cases.specs.declared.Counts.{Counts}
 use Rattle.refusals.specs.Offsets.{people_at, steps_at, tables_at, rules_at, total_of}
 use Rattle.refusals.specs.Table.{Exactly}
 use Rattle.refusals.proofs.Table.{Told, exactly, only-tells}
-use Rattle.refusals.proofs.Conditions.{either_is, below-is, differs-is, too_many}
+use Rattle.refusals.proofs.Conditions.{either_is, below-is, differs-is, too_many_lem}
 use Rattle.refusals.proofs.Cases.{entries-tell}
 use Rattle.words.specs.Word.{word}
 use Rattle.layout.specs.Layout.{counts_of, case_of}
@@ -54,7 +54,7 @@ file-tells f = (
     (
       only-tells 3 _ _ (differs-is _ _),
       (
-        only-tells 4 _ _ (too_many (counts_of f)),
+        only-tells 4 _ _ (too_many_lem (counts_of f)),
         (
           only-tells 5 _ _ (misplaced-is f (counts_of f)),
           (

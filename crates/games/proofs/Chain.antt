@@ -1,7 +1,7 @@
 -- Dynamic yes gives decremental yes, that gives one-shot yes, that gives static yes, and that a plan: for any notion of a round.
-use mathlib.Core.Path.{◌≡◌, refl}
+use mathlib.Core.Path.{refl}
 use Prim.Native.Nat.{ℕ, zero, suc}
-use Rattle.games.specs.Games.{Absent, Contains, Line, Planned, Static, Decremental, OneShot, Dynamic}
+use Rattle.games.specs.Games.{Absent, Planned, Static, Decremental, OneShot, Dynamic}
 use Rattle.games.proofs.Verdicts.{nobody, contains-empty}
 
 module _ {Pos : Type 0} (n : ℕ) (Round : ℕ → Pos → Pos → Type 0) where

@@ -2,12 +2,12 @@
 use mathlib.Core.Path.{◌≡◌, refl, sym, ap, ap₂, ◌∙◌}
 use mathlib.Core.Option.{Option, none, some, some-injective, none-ne-some, some-ne-none}
 use mathlib.Core.Bool.{Bool, true, false}
-use Prim.Native.Nat.{ℕ, zero, suc, ◌+◌, ◌-◌, ◌≤◌, ◌<◌}
+use Prim.Native.Nat.{ℕ, ◌+◌, ◌-◌, ◌≤◌, ◌<◌}
 use native.Mathlib.Nat.{add_assoc}
 use native.Mathlib.Omega.{arith}
 use Rattle.sets.specs.Lists.{only_if}
 use Rattle.games.specs.Walks.{Walk, Search, plus, or_else}
-use Rattle.games.specs.Limit.{Ended, limit, ended, Answer, stopped, whole, cut}
+use Rattle.games.specs.Limit.{ended, Answer, stopped, whole, cut}
 use Rattle.games.proofs.Limits.{cut-within, cut-past, cut-limit, cut-ended, cut-trials}
 
 module _ {B : Type 0} where

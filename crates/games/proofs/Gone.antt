@@ -1,14 +1,14 @@
 -- Where t people are gone nobody else can go: from there on the away side has one set, and the rest is a plan without its people.
-use mathlib.Core.Path.{◌≡◌, refl, sym, ap, ap₂, ◌∙◌}
+use mathlib.Core.Path.{◌≡◌, refl, sym, ap, ◌∙◌}
 use mathlib.Core.Option.{Option, none, some}
-use mathlib.Core.List.{List, [], ◌∷◌}
+use mathlib.Core.List.{[], ◌∷◌}
 use Prim.Native.Nat.{ℕ, zero, suc, ◌<◌, ◌^◌}
 use native.Mathlib.Nat.{add-zero}
-use Rattle.sets.specs.Sets.{size, sets}
+use Rattle.sets.specs.Sets.{size}
 use Rattle.sets.proofs.Listed.{sets-full}
 use Rattle.games.specs.Arena.{Arena}
 use Rattle.games.specs.Walks.{Search, plus, or_else, seek, try, if_none, unbeaten, tries, desk, present, plan, decremental}
-use Rattle.games.proofs.Walks.{told, mapped, seek-told, seek-cong}
+use Rattle.games.proofs.Walks.{told, seek-told, seek-cong}
 
 -- a list of one
 seek-one : {A B : Type 0} (f : A → Search B) (x : A) → seek f (x ∷ []) ≡ f x

@@ -1,21 +1,21 @@
 -- The dynamic verdict, found by counting people, agrees with the game over every set of at most t absentees before every step, at every position.
-use mathlib.Core.Path.{◌≡◌, refl, sym, ap, ap₂, ◌∙◌, subst}
-use mathlib.Core.Logic.{◌⊎◌, inl, inr, ◌↔◌}
-use mathlib.Core.Option.{Option, none, some, none-ne-some, some-ne-none, some-injective}
+use mathlib.Core.Path.{◌≡◌, refl, sym, ap, ◌∙◌}
+use mathlib.Core.Logic.{◌↔◌}
+use mathlib.Core.Option.{none, some}
 use mathlib.Core.Bool.{Bool, true, false, not, true≢false}
-use mathlib.Core.List.{List, [], ◌∷◌, ◌++◌}
+use mathlib.Core.List.{List}
 use Prim.Native.Nat.{ℕ, zero, suc, ◌≤◌, ◌<◌, min}
 use native.Mathlib.Omega.{arith}
-use borrow.Author.Tests.{ltb-true, ltb-false, lt-ltb, le-ltb, leb-true, leb-false, le-leb, lt-leb}
+use borrow.Author.Tests.{ltb-true, ltb-false, lt-ltb, le-ltb, leb-true, le-leb, lt-leb}
 use lib.Dec.{leb, ltb}
 use lib.ListN.{length, take, length-take}
 use lib.Seq.{take_all}
-use Rattle.sets.specs.Lists.{only_if, ◌∈◌, upto, keep}
-use Rattle.sets.specs.Sets.{has, count, set_of, set_from, size}
-use Rattle.sets.proofs.Lists.{only_if-some, only_if-none, keep-cong}
+use Rattle.sets.specs.Lists.{only_if, upto, keep}
+use Rattle.sets.specs.Sets.{has, set_from, size}
+use Rattle.sets.proofs.Lists.{only_if-some, keep-cong}
 use Rattle.sets.proofs.Counting.{pigeon, set_of-lt, has-set_of, size-set_of, length-keep, set_from-keep}
 use Rattle.games.specs.Arena.{Arena, Round}
-use Rattle.games.specs.Walks.{Walk, Search, if_none, lacking, tally, too_few, tries, dynamic}
+use Rattle.games.specs.Walks.{Search, if_none, tally, too_few, tries, dynamic}
 use Rattle.games.specs.Games.{Absent, Dynamic}
 use Rattle.games.specs.Good.{can_leave, good, good_count, good_people}
 use Rattle.games.proofs.Searches.{gets, gets_none, gets-lacking, can_leave-cong, can_leave-round, round-can_leave, tries-gets, tally-keep}

@@ -10,7 +10,7 @@ use borrow.Author.Tests.{leb-true, leb-false, le-leb, lt-leb}
 use lib.Dec.{leb}
 use Rattle.sets.specs.Lists.{pick}
 use Rattle.games.specs.Walks.{Walk}
-use Rattle.games.specs.Limit.{Ended, limit, ended, Answer, stopped, whole, cut}
+use Rattle.games.specs.Limit.{limit, ended, Answer, stopped, whole, cut}
 
 module _ {B : Type 0} where
   pub limit-ended : (b : B) → limit ≡ ended b → ⊥

@@ -1,7 +1,7 @@
 -- Where each round of one game can be matched by a round of another, every yes of the first is a yes of the second.
-use mathlib.Core.Path.{◌≡◌, refl}
+use mathlib.Core.Path.{refl}
 use Prim.Native.Nat.{ℕ, zero, suc}
-use Rattle.games.specs.Games.{Absent, Contains, Line, Planned, Static, Decremental, OneShot, Dynamic}
+use Rattle.games.specs.Games.{Line, Static, Decremental, OneShot, Dynamic}
 
 -- `Like p s`: the position s stands for p
 abbrev pub Matches : {P S : Type 0} → (ℕ → P → P → Type 0) → (ℕ → S → S → Type 0) → (P → S → Type 0) → Type 0

@@ -1,23 +1,23 @@
 -- What advice and away say, and that a yes is played by the one and a no by the other.
 use mathlib.Core.Path.{◌≡◌, refl, sym, ap, ◌∙◌, subst}
 use mathlib.Core.Logic.{◌↔◌}
-use mathlib.Core.Option.{Option, none, some, none-ne-some, some-ne-none, some-injective}
-use mathlib.Core.Bool.{Bool, true, false, true≢false}
-use mathlib.Core.List.{List, [], ◌∷◌, ◌++◌}
+use mathlib.Core.Option.{Option, none, some}
+use mathlib.Core.Bool.{true, false, true≢false}
+use mathlib.Core.List.{List, [], ◌∷◌}
 use Prim.Native.Nat.{ℕ, zero, suc, ◌≤◌, ◌<◌}
 use native.Mathlib.Omega.{arith}
 use lib.ListN.{length}
-use Rattle.sets.specs.Lists.{◌∈◌, upto, any}
+use Rattle.sets.specs.Lists.{◌∈◌, upto}
 use Rattle.sets.specs.Sets.{has}
 use Rattle.sets.proofs.Lists.{any-cong}
 use Rattle.sets.proofs.Ascending.{Ascending, upto-ascending, keep-ascending, lower-before}
-use Rattle.games.specs.Arena.{Arena, Round}
-use Rattle.games.specs.Walks.{Walk, Search, plus, seek, try, if_none, having, if_some, present, dynamic, advice, away}
+use Rattle.games.specs.Arena.{Arena}
+use Rattle.games.specs.Walks.{Search, plus, seek, try, having, if_some, present, dynamic, advice, away}
 use Rattle.games.specs.Games.{Absent}
 use Rattle.games.specs.Good.{passes, can_leave, good, good_count, good_people}
 use Rattle.games.specs.Play.{AllAbsent, placed, onward, followed, Rounds, Stopped}
-use Rattle.games.proofs.Searches.{gets, gets-some, gets_none, having-some, Found, seek-gets, seek_found, seek-none, found_in, try-some, present-in, present-mem, round-can_leave}
-use Rattle.games.proofs.Good.{good_walk, well, judged, dynamic-good, dynamic-bad, DynamicShown, dynamic-shown, good_people-absent, good_more, good-few, good_left, good-away}
+use Rattle.games.proofs.Searches.{gets, gets-some, gets_none, having-some, seek-gets, seek_found, seek-none, found_in, try-some, present-in, present-mem, round-can_leave}
+use Rattle.games.proofs.Good.{good_walk, well, judged, dynamic-good, dynamic-shown, good_people-absent, good_more, good-few, good_left, good-away}
 
 module _ (G : Arena) where
   -- ---- advice

@@ -1,17 +1,17 @@
 -- Laws of the searches: what one gets, and where.
-use mathlib.Core.Path.{◌≡◌, refl, sym, ap, ap₂, ◌∙◌, subst}
+use mathlib.Core.Path.{◌≡◌, refl, sym, ap, ◌∙◌, subst}
 use mathlib.Core.Logic.{◌⊎◌, inl, inr, ◌↔◌}
 use mathlib.Core.Option.{Option, none, some, none-ne-some, some-ne-none, some-injective}
 use mathlib.Core.Bool.{Bool, true, false, not, ◌||◌, true≢false}
 use mathlib.Core.List.{List, [], ◌∷◌, ◌++◌}
-use Prim.Native.Nat.{ℕ, zero, suc, ◌+◌, ◌<◌}
-use lib.ListN.{length, take}
+use Prim.Native.Nat.{ℕ, zero, suc, ◌<◌}
+use lib.ListN.{take}
 use lib.Seq.{take-nil}
 use Rattle.sets.specs.Lists.{◌∈◌, cons_if, upto, keep, any}
 use Rattle.sets.specs.Sets.{has}
 use Rattle.sets.proofs.Lists.{keep-in, keep-mem, upto-in, upto-mem, any-cong, any-mem, mem-any}
 use Rattle.games.specs.Arena.{Arena, Round}
-use Rattle.games.specs.Walks.{Walk, Search, unbeaten, plus, or_else, seek, try, lacking, if_none, having, if_some, mark, tally, present, tries, desk}
+use Rattle.games.specs.Walks.{Search, unbeaten, plus, or_else, seek, try, lacking, if_none, having, mark, tally, present, tries, desk}
 use Rattle.games.specs.Good.{passes, can_leave}
 
 -- ---- something or nothing

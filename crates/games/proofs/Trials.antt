@@ -1,7 +1,7 @@
 -- What is counted.
 use mathlib.Core.Path.{◌≡◌, refl, sym, ap, ap₂, ◌∙◌}
 use mathlib.Core.Logic.{inl, inr}
-use mathlib.Core.Option.{Option, none, some, none-ne-some, some-ne-none}
+use mathlib.Core.Option.{Option, none, some, some-ne-none}
 use mathlib.Core.List.{List, [], ◌∷◌, ◌++◌, map}
 use Prim.Native.Nat.{ℕ, zero, suc, ◌+◌, ◌<◌}
 use native.Mathlib.Nat.{not-suc-le-zero, le_of_suc-le-suc, add_assoc, zero-add}
@@ -13,7 +13,7 @@ use Rattle.sets.specs.Lists.{◌∈◌, upto}
 use Rattle.sets.specs.Sets.{set_from}
 use Rattle.sets.proofs.Lists.{only_if-some}
 use Rattle.games.specs.Arena.{Arena}
-use Rattle.games.specs.Walks.{Walk, Search, No, unbeaten, plus, or_else, seek, try, if_some, mark, tally, too_few, present, tries, desk, dynamic, advice}
+use Rattle.games.specs.Walks.{Search, No, unbeaten, plus, or_else, seek, try, if_some, mark, tally, too_few, present, tries, desk, dynamic, advice}
 use Rattle.games.proofs.Searches.{seek-none}
 
 abbrev pub sum : {A : Type 0} → (A → ℕ) → List A → ℕ

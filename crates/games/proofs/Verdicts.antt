@@ -1,24 +1,23 @@
 -- Each walk's verdict is its game's: a plan is got exactly if there is one, and it is the first; nothing is got by a verdict's walk exactly if
 -- the desk wins; and what is got otherwise is a set that beats it.
 use mathlib.Core.Path.{◌≡◌, refl, sym, ap, ◌∙◌, subst}
-use mathlib.Core.Logic.{◌⊎◌, inl, inr, ◌↔◌}
-use mathlib.Core.Option.{Option, none, some, none-ne-some, some-ne-none, some-injective}
-use mathlib.Core.Bool.{Bool, true, false, not, true≢false}
-use mathlib.Core.List.{List, [], ◌∷◌, ◌++◌}
-use Prim.Native.Nat.{ℕ, zero, suc, ◌^◌, ◌≤◌, ◌<◌, zero-le}
+use mathlib.Core.Logic.{◌↔◌}
+use mathlib.Core.Option.{Option, none, some, some-injective}
+use mathlib.Core.Bool.{true, true≢false}
+use mathlib.Core.List.{List, ◌∷◌, ◌++◌}
+use Prim.Native.Nat.{ℕ, zero, suc, ◌<◌, zero-le}
 use lib.Pow.{pow_pos}
-use Rattle.sets.specs.Lists.{◌∈◌, upto, any}
-use Rattle.sets.specs.Sets.{has, size, sets}
-use Rattle.sets.proofs.Lists.{any-mem, mem-any}
+use Rattle.sets.specs.Lists.{◌∈◌, upto}
+use Rattle.sets.specs.Sets.{sets}
 use Rattle.sets.proofs.Ascending.{Ascending, upto-ascending, keep-ascending, lower-before}
 use Rattle.sets.proofs.Bits.{has-empty}
 use Rattle.sets.proofs.Counting.{size-empty}
 use Rattle.sets.proofs.Listed.{sets-mem, sets-in, within-mem, mem-within, sets-ascending}
 use Rattle.games.specs.Arena.{Arena, Round}
-use Rattle.games.specs.Walks.{Walk, Search, plus, seek, if_none, lacking, present, tries, desk, try, plan, static, decremental}
-use Rattle.games.specs.Games.{Absent, Contains, Line, Planned, Static, Decremental}
-use Rattle.games.specs.Good.{Earliest, First}
-use Rattle.games.proofs.Searches.{gets, gets-some, gets_none, gets-lacking, lacking-some, lacking-exactly, Found, seek_found, seek-none, found_in, split-mem, try-some, present-in, present-mem, tries-gets, round-can_leave, desk-wins, turn-wins}
+use Rattle.games.specs.Walks.{Search, plus, seek, if_none, present, tries, desk, try, plan, static, decremental}
+use Rattle.games.specs.Games.{Absent, Contains, Planned, Static, Decremental}
+use Rattle.games.specs.Good.{First}
+use Rattle.games.proofs.Searches.{gets, gets-some, gets_none, lacking-some, lacking-exactly, seek_found, seek-none, found_in, try-some, present-in, present-mem, desk-wins, turn-wins}
 
 -- ---- sets of absentees
 

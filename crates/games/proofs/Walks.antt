@@ -1,15 +1,14 @@
 -- Walks that coincide: one arena seen through another. Positions and moves are mapped, wherever play can come to, and the walks are the same.
-use mathlib.Core.Path.{◌≡◌, refl, sym, ap, ap₂, ◌∙◌, subst}
-use mathlib.Core.Logic.{◌⊎◌, inl, inr}
+use mathlib.Core.Path.{◌≡◌, refl, sym, ap, ap₂, ◌∙◌}
+use mathlib.Core.Logic.{inl, inr}
 use mathlib.Core.Option.{Option, none, some}
-use mathlib.Core.Bool.{Bool, true, false}
 use mathlib.Core.List.{List, [], ◌∷◌, map}
 use Prim.Native.Nat.{ℕ, zero, suc, ◌<◌}
 use Rattle.sets.specs.Lists.{◌∈◌, upto}
 use Rattle.sets.specs.Sets.{sets}
 use Rattle.sets.proofs.Lists.{upto-in}
 use Rattle.games.specs.Arena.{Arena}
-use Rattle.games.specs.Walks.{Walk, Search, plus, or_else, seek, try, if_none, if_some, mark, tally, too_few, present, tries, desk, plan, static, decremental, one_shot, dynamic, advice, away}
+use Rattle.games.specs.Walks.{Walk, Search, plus, or_else, seek, try, if_none, if_some, mark, tally, too_few, present, tries, desk, plan, static, decremental, one_shot, dynamic, advice}
 use Rattle.games.proofs.Searches.{present-in}
 
 -- ---- searches that agree on what they go over

@@ -1,5 +1,5 @@
 -- An arena says who can do what at a position. Taking the steps as listed makes one arena; another way to play makes another.
-use Rattle.std.specs.Prelude.{◌≡◌, Bool, false, List, ℕ, ◌<◌}
+use Rattle.std.specs.Prelude.{◌≡◌, false, List, ℕ, ◌<◌}
 use Rattle.std.proofs.Math.Option.{Option, some}
 use Rattle.sets.specs.Lists.{◌∈◌}
 use Rattle.sets.specs.Sets.{has}

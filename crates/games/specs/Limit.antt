@@ -1,5 +1,5 @@
 -- The limit of a call. `cut` is the only definition that knows one.
-use Rattle.std.specs.Prelude.{Bool, true, false, ℕ, leb}
+use Rattle.std.specs.Prelude.{ℕ, leb}
 use Rattle.sets.specs.Lists.{pick}
 use Rattle.games.specs.Walks.{Walk}
 

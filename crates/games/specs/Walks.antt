@@ -1,5 +1,5 @@
 -- The walks, each with its trials (scope: "The walk and its trials", "Playing the dynamic game"). No walk knows a limit.
-use Rattle.std.specs.Prelude.{◌≡◌, Bool, true, false, not, List, [], ◌∷◌, ℕ, zero, suc, ◌+◌, leb, length}
+use Rattle.std.specs.Prelude.{◌≡◌, not, List, [], ◌∷◌, ℕ, zero, suc, ◌+◌, leb, length}
 use Rattle.std.proofs.Math.Option.{Option, none, some}
 use Rattle.sets.specs.Lists.{only_if, upto, keep}
 use Rattle.sets.specs.Sets.{has, set_from, sets}

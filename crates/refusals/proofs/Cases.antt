@@ -20,12 +20,12 @@ use Rattle.refusals.specs.Table.{Exactly, counts_row, entry_rows, case_table}
 use Rattle.refusals.proofs.Order.{good-refused, good-checks}
 use Rattle.refusals.proofs.Search.{entry-none}
 use Rattle.refusals.proofs.Table.{Tells, Told, exactly, only-tells, entry-tells}
-use Rattle.refusals.proofs.Conditions.{nor-false, past-names, too_many, bad-step, bad-rule}
+use Rattle.refusals.proofs.Conditions.{nor-false, past-names, too_many_lem, bad-step, bad-rule}
 
 module _ (c : Case) where
   pub counts-tell : Tells (counts_check c) (counts_row c)
   unfolding counts_check
-  counts-tell = only-tells 4 _ _ (too_many c.counts)
+  counts-tell = only-tells 4 _ _ (too_many_lem c.counts)
 
   pub entries-tell : Told (entry_checks c) (entry_rows c)
   unfolding entry_checks bad_person bad_roles bad_row

@@ -66,9 +66,9 @@ past-names room s n = (to, from)
 abbrev Above : Counts → Type 0
 Above n = (most_people < n.people) ⊎ ((most_steps < n.steps) ⊎ ((most_roles < n.roles) ⊎ ((most_tables < n.tables) ⊎ (most_rules < n.rules))))
 
-pub too_many : (n : Counts) → (too_many n ≡ true) ↔ TooMany n
+pub too_many_lem : (n : Counts) → (too_many n ≡ true) ↔ TooMany n
 unfolding too_many
-too_many n = (λ e. to (sums.0 e), λ k. sums.1 (from k))
+too_many_lem n = (λ e. to (sums.0 e), λ k. sums.1 (from k))
   where
     sums : (too_many n ≡ true) ↔ Above n
     sums =

@@ -6,7 +6,7 @@ use native.Mathlib.Decide.{dec_lt}
 use native.Mathlib.Omega.{arith}
 use lib.Dec.{eqb}
 use Rattle.sets.specs.Sets.{has}
-use Rattle.sums.specs.Sums.{over, Reached}
+use Rattle.sums.specs.Sums.{Reached}
 use Rattle.sums.proofs.Joins.{joined-has, joined-other, joined-size}
 
 module _ (n : ℕ) (w : ℕ → ℕ) where

@@ -1,6 +1,6 @@
 -- The laws of sums over sets: one step of a sum, where two sums are equal, the sum of two and a multiple.
 use mathlib.Core.Path.{◌≡◌, refl, sym, ap, ap₂, ◌∙◌}
-use mathlib.Core.Bool.{Bool, true, false, not}
+use mathlib.Core.Bool.{Bool, true, false}
 use Prim.Native.Nat.{ℕ, zero, suc, ◌+◌, ◌*◌, ◌^◌, ◌≤◌, ◌<◌}
 use native.Mathlib.Nat.{add-zero, mul-add, mul_left_comm, mul-zero, zero-mul, le_refl}
 use native.Mathlib.Omega.{arith}

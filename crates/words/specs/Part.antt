@@ -1,5 +1,5 @@
 -- Runs of entries, and how far a loop that fills an array or writes a part has come.
-use Rattle.std.specs.Prelude.{ℕ, zero, suc, ◌+◌, ◌-◌, ◌*◌, ◌≤◌, ◌<◌, ◌≡◌, List, [], ◌++◌, map, length, get_or, take, drop}
+use Rattle.std.specs.Prelude.{ℕ, zero, suc, ◌-◌, ◌*◌, ◌≤◌, ◌<◌, ◌≡◌, List, [], ◌++◌, map, length, get_or, take, drop}
 use Rattle.sets.specs.Lists.{upto}
 
 -- the entries f 0, .., f (n - 1)

@@ -1,7 +1,6 @@
 use mathlib.Core.Path.{◌∙◌}
 use Rattle.sets.specs.Stored.{width}
 use Rattle.sets.proofs.Masks.{after_is}
-use borrow.Author.Rules.{rules}
 use Rattle.sets.proofs.People.after.Goals as goal
 
 pub returns : goal.returns

@@ -1,5 +1,4 @@
 use mathlib.Core.Path.{◌∙◌}
-use borrow.Author.Rules.{rules}
 use Rattle.sets.specs.Stored.{width, number}
 use Rattle.sets.proofs.Masks.{shl_one, alone-is, alone-nobody}
 use Rattle.sets.proofs.People.alone.Goals as goal

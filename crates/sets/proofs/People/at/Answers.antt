@@ -1,7 +1,6 @@
 use mathlib.Core.Path.{refl, sym}
 use lib.ListN.{get_or-eq_default}
 use Rattle.sets.specs.Stored.{number, set_at}
-use borrow.Author.Rules.{rules}
 use Rattle.sets.proofs.People.at.Goals as goal
 
 pub returns-then-i-words : goal.returns-then-i-words

@@ -3,7 +3,6 @@ use Rattle.sets.specs.Sets.{size}
 use Rattle.sets.specs.Stored.{width}
 use Rattle.sets.proofs.Counting.{size-empty}
 use Rattle.sets.proofs.Masks.{before-is}
-use borrow.Author.Rules.{rules}
 use borrow.Author.Tests.{eqb-true}
 use Rattle.sets.proofs.People.before.Goals as goal
 

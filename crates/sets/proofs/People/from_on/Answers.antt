@@ -1,7 +1,6 @@
 use mathlib.Core.Path.{◌∙◌}
 use Rattle.sets.specs.Stored.{width}
 use Rattle.sets.proofs.Masks.{from-on-is}
-use borrow.Author.Rules.{rules}
 use Rattle.sets.proofs.People.from_on.Goals as goal
 
 pub returns : goal.returns

@@ -1,5 +1,4 @@
 use native.Mathlib.Omega.{arith}
-use borrow.Author.Rules.{rules}
 use Rattle.sets.proofs.Records.{high-past, low-past, words-held}
 use Rattle.sets.proofs.People.from_words.Goals as goal
 

@@ -1,13 +1,11 @@
 use mathlib.Core.Path.{◌≡◌, sym, ap, ◌∙◌}
-use mathlib.Core.Bool.{true}
 use native.Mathlib.Omega.{arith}
-use borrow.Author.Rules.{rules}
 use borrow.Author.Tests.{not-true, not-false}
 use Prim.Native.Nat.{ℕ, ◌<◌, ◌^◌}
 use Rattle.sets.specs.declared.People.{People}
 use Rattle.sets.specs.Sets.{everybody, common}
 use Rattle.sets.specs.Stored.{width, number, next_number, lowest_number}
-use Rattle.sets.proofs.Following.{Begun, listed, next-unlisted, next_last, next_up}
+use Rattle.sets.proofs.Following.{Begun, next-unlisted, next_last, next_up}
 use Rattle.sets.proofs.People.next.Goals as goal
 
 -- what every way through the code sets out from

@@ -1,5 +1,4 @@
 use native.Mathlib.Omega.{arith}
-use borrow.Author.Rules.{rules}
 use Rattle.sets.specs.Stored.{width, number}
 use Rattle.sets.proofs.Masks.{shl_one}
 use Rattle.sets.proofs.NotBelow.{past_is, past-beyond}

@@ -1,5 +1,4 @@
 use mathlib.Core.Path.{ap, ◌∙◌}
-use borrow.Author.Rules.{rules}
 use Rattle.sets.specs.Sets.{lowest}
 use Rattle.sets.specs.Stored.{width}
 use Rattle.sets.proofs.Lists.{pick-lt, pick-ge}

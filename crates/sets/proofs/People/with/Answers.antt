@@ -1,5 +1,4 @@
 use mathlib.Core.Path.{ap, ◌∙◌}
-use borrow.Author.Rules.{rules}
 use Rattle.sets.specs.Sets.{joined}
 use Rattle.sets.specs.Stored.{width}
 use Rattle.sets.proofs.Masks.{with-is}

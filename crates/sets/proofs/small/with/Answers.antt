@@ -4,7 +4,6 @@ use native.Mathlib.Omega.{arith}
 use lib.Pow.{pow-lt}
 use Rattle.sets.specs.Sets.{joined}
 use Rattle.sets.proofs.Masks.{shl_one, alone-is, joined_is, with-is, with_none}
-use borrow.Author.Rules.{rules}
 use Rattle.sets.proofs.small.with.Goals as goal
 
 pub returns-then-i-lt32 : goal.returns-then-i-lt32

@@ -1,10 +1,9 @@
 use Prim.Native.Nat.{◌^◌}
-use mathlib.Core.Path.{sym, ap, ◌∙◌}
+use mathlib.Core.Path.{ap, ◌∙◌}
 use native.Mathlib.Omega.{arith}
 use lib.Pow.{pow-lt}
 use Rattle.sets.specs.Sets.{difference}
 use Rattle.sets.proofs.Masks.{shl_one, alone-is, difference-is, without_is, without-none}
-use borrow.Author.Rules.{rules}
 use Rattle.sets.proofs.small.without.Goals as goal
 
 pub returns-then-i-lt32 : goal.returns-then-i-lt32

@@ -1,0 +1,13 @@
+use Rattle.layout.proofs.end.Goals as goal
+
+pub returns-in-People : goal.returns-in-People
+returns-in-People c = simp c.in-People.is c.steps_at.ensures.0
+
+pub returns-in-Steps : goal.returns-in-Steps
+returns-in-Steps c = simp c.in-Steps.is c.tables_at.ensures.0
+
+pub returns-in-Tables : goal.returns-in-Tables
+returns-in-Tables c = simp c.in-Tables.is c.rules_at.ensures.0
+
+pub returns-in-Rules : goal.returns-in-Rules
+returns-in-Rules c = simp c.in-Rules.is c.total.ensures

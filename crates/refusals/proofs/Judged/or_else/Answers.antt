@@ -1,0 +1,4 @@
+use Rattle.refusals.proofs.Judged.or_else.Goals as goal
+
+pub returns-in-Refused : goal.returns-in-Refused
+returns-in-Refused c = simp c.in-Refused.is
