@@ -7,7 +7,8 @@ use std::io;
 
 // Counts a call, and tells a difference. Questions: 0 plan, 1 static, 2 decremental, 3 one-shot, 4 dynamic, 5 advice, 6 away, 7 judging, 8 writing.
 pub fn compare(
-    rt: &impl Print, tally: &mut [usize; TALLY],
+    rt: &impl Print,
+    tally: &mut [usize; TALLY],
     file: &[u8; ROOM],
     length: usize,
     question: usize,
@@ -27,7 +28,8 @@ pub fn compare(
 // wins a harder game wins an easier one. Beside the questions: 9 a file written again, 10 a case read again, 11 to 14 the parts, 15 the text, 16 the
 // chain of games, and from 20 on the exported functions.
 pub fn expect(
-    rt: &impl Print, tally: &mut [usize; TALLY],
+    rt: &impl Print,
+    tally: &mut [usize; TALLY],
     file: &[u8; ROOM],
     length: usize,
     question: usize,
@@ -51,7 +53,8 @@ fn same(a: Answer, b: Answer) -> bool {
 
 // Counts a difference. Is it the first? Then the question and the file are printed.
 pub fn is_first(
-    rt: &impl Print, tally: &mut [usize; TALLY],
+    rt: &impl Print,
+    tally: &mut [usize; TALLY],
     file: &[u8; ROOM],
     length: usize,
     question: usize,

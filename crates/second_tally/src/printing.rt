@@ -7,7 +7,9 @@ use second_files::{minus, plus, times};
 use std::io;
 
 pub fn print_all(rt: &impl Print, tally: &[usize; TALLY]) -> io::Result<()> {
-    rt.write_all(b"Each question of a case is asked at the largest limit, at the exact count of trials and at one less; longer than 20000 trials: at 20000.\n")?;
+    rt.write_all(
+        b"Each question of a case is asked at the largest limit, at the exact count of trials and at one less; longer than 20000 trials: at 20000.\n",
+    )?;
     print_line(rt, tally, b"files with one fault", ONE_FAULT)?;
     print_line(rt, tally, b"files with two faults", TWO_FAULTS)?;
     rt.write_all(b"of these as cases in memory\n")?;
@@ -67,17 +69,20 @@ fn print_apart(rt: &impl Print, tally: &[usize; TALLY], kind: usize) -> io::Resu
     if 0 < kind {
         print_line(rt, tally, b"  cases with static yes, one-shot no", at)?;
         print_line(
-            rt, tally,
+            rt,
+            tally,
             b"  cases with one-shot yes, decremental no",
             plus(at, 1),
         )?;
         print_line(
-            rt, tally,
+            rt,
+            tally,
             b"  cases with decremental yes, dynamic no",
             plus(at, 2),
         )?;
         print_line(
-            rt, tally,
+            rt,
+            tally,
             b"  cases with one-shot no that show a strike",
             plus(at, 3),
         )?;
@@ -113,7 +118,12 @@ fn print_name(rt: &impl Print, question: usize) -> io::Result<()> {
 }
 
 // Good cases by answer.
-fn print_answered(rt: &impl Print, tally: &[usize; TALLY], kind: usize, at: usize) -> io::Result<()> {
+fn print_answered(
+    rt: &impl Print,
+    tally: &[usize; TALLY],
+    kind: usize,
+    at: usize,
+) -> io::Result<()> {
     if 0 < kind {
         print_count(rt, tally, b" cases yes", plus(at, 1))?;
         print_count(rt, tally, b" no", at)?;
@@ -196,12 +206,14 @@ fn print_others(rt: &impl Print, tally: &[usize; TALLY]) -> io::Result<()> {
     print_line(rt, tally, b"games played for the away side", AWAY_GAMES)?;
     print_line(rt, tally, b"given up for room, all questions", GIVEN_UP)?;
     print_line(
-        rt, tally,
+        rt,
+        tally,
         b"given up for room, questions about absence",
         plus(GIVEN_UP, 1),
     )?;
     print_line(
-        rt, tally,
+        rt,
+        tally,
         b"given up for room, decremental, text and exported functions",
         plus(GIVEN_UP, 2),
     )
