@@ -1,13 +1,13 @@
 -- Others away: where that is the same of all who were met, the line is tried alike.
 use mathlib.Core.Path.{◌≡◌, refl, sym, ap, ap₂, ◌∙◌}
-use mathlib.Core.Bool.{Bool, true, false, not, ◌&&◌, ◌||◌, true≢false}
+use mathlib.Core.Bool.{Bool, true, false, not, ◌&&◌, ◌||◌}
 use mathlib.Core.Option.{Option, some}
 use Prim.Native.Nat.{ℕ, suc, ◌+◌, ◌^◌, ◌≤◌, ◌<◌}
 use native.Mathlib.Omega.{arith}
 use borrow.Author.Tests.{le-ltb, ltb-true}
 use lib.Dec.{leb, ltb}
 use Rattle.sets.specs.Lists.{only_if}
-use Rattle.sets.specs.Sets.{has, set_of, size_before, lowest, difference, joined, after}
+use Rattle.sets.specs.Sets.{has, size_before, lowest, difference, joined, after}
 use Rattle.sets.specs.Stored.{width}
 use Rattle.sets.proofs.Lists.{true-or, and-true-end, and-false-end}
 use Rattle.sets.proofs.Counting.{has-set_of, set_of-ext, set-ext, count-ext}

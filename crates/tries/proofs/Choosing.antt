@@ -1,7 +1,7 @@
 -- Where the desk may choose its step: every walk there is a scan of the lines at the position; and the position that a move leaves.
-use mathlib.Core.Path.{◌≡◌, refl, sym, ap, ap₂, ◌∙◌, subst}
-use mathlib.Core.Option.{Option, none, some}
-use mathlib.Core.Bool.{Bool, true, not, ◌&&◌}
+use mathlib.Core.Path.{◌≡◌, refl, sym, ap, ◌∙◌, subst}
+use mathlib.Core.Option.{Option}
+use mathlib.Core.Bool.{Bool, not, ◌&&◌}
 use mathlib.Core.List.{List, map}
 use Prim.Native.Nat.{ℕ, suc, ◌-◌, ◌≤◌, ◌<◌}
 use native.Mathlib.Omega.{arith}
@@ -13,9 +13,8 @@ use Rattle.sets.proofs.Lists.{and-true-end}
 use Rattle.sets.proofs.Bits.{has-empty}
 use Rattle.sets.proofs.Counting.{has-set_of}
 use Rattle.sets.proofs.Records.{number-stored}
-use Rattle.games.specs.Walks.{Search, plan, decremental, one_shot, dynamic, advice}
+use Rattle.games.specs.Walks.{plan, decremental, one_shot, dynamic, advice}
 use Rattle.cases.specs.declared.Filled.{Filled}
-use Rattle.cases.specs.declared.Person.{Person}
 use Rattle.cases.specs.Case.{most_steps}
 use Rattle.cases.specs.Filled.{placed_at}
 use Rattle.boards.specs.Board.{allowed_on, ready_on, fits_on}

@@ -1,21 +1,18 @@
 -- The walks of `games` on a board, each as a scan of the line at a position.
-use mathlib.Core.Path.{◌≡◌, refl, sym, ap, ap₂, ◌∙◌}
+use mathlib.Core.Path.{◌≡◌, refl, sym, ap, ◌∙◌}
 use mathlib.Core.Option.{Option, none, some}
-use mathlib.Core.Bool.{Bool, true, false, not, ◌&&◌}
-use mathlib.Core.List.{List, [], ◌∷◌, ◌++◌}
-use Prim.Native.Nat.{ℕ, zero, suc, ◌+◌, ◌-◌, ◌≤◌, ◌<◌, ◌^◌}
+use mathlib.Core.Bool.{Bool, true, false}
+use mathlib.Core.List.{List, [], ◌∷◌}
+use Prim.Native.Nat.{ℕ, suc, ◌+◌, ◌-◌, ◌≤◌, ◌^◌}
 use native.Mathlib.Omega.{arith}
 use borrow.Author.Tests.{eqb-true, eqb-false}
 use lib.Dec.{eqb}
-use Rattle.sets.specs.Lists.{◌∈◌, pick, only_if, cons_if, upto, keep}
-use Rattle.sets.specs.Sets.{has, set_from, members, common, difference, everybody}
-use Rattle.sets.specs.Stored.{width}
-use Rattle.sets.proofs.Lists.{keep-keep, keep-cong, keep_append, keep-nothing, upto-in, from-lo, from-hi, from-append}
-use Rattle.games.specs.Walks.{Walk, Search, plus, or_else, seek, try, if_none, if_some, unbeaten, present, tries, desk, plan, dynamic, decremental, advice, mark, tally}
-use Rattle.tries.specs.Trying.{InLine}
+use Rattle.sets.specs.Lists.{pick, only_if, cons_if, keep}
+use Rattle.sets.specs.Sets.{has}
+use Rattle.games.specs.Walks.{Walk, Search, plus, or_else, seek, try, mark, tally}
 use Rattle.games.proofs.Cuts.{plus-plus, plus-zero}
 use Rattle.games.proofs.Few.{few, few-plus, few-more, few-enough, few-none, no_more}
-use Rattle.tries.proofs.Scans.{Step, stop, go, Hunt, turn, judged, scan, scan-cong, Inside}
+use Rattle.tries.proofs.Scans.{Step, stop, go, Hunt, turn, judged, scan}
 
 -- ---- a person at a position: a trial where allowed, judged where every rule holds
 

@@ -4,14 +4,14 @@ use mathlib.Core.Path.{◌≡◌, refl, sym, ap, ap₂, ◌∙◌}
 use mathlib.Core.Option.{Option, none, some}
 use mathlib.Core.Bool.{Bool, true, false, not, ◌&&◌, and_comm}
 use mathlib.Core.List.{List, [], ◌∷◌, ◌++◌, map, append-nil}
-use Prim.Native.Nat.{ℕ, zero, suc, ◌+◌, ◌-◌, ◌≤◌, ◌<◌, ◌^◌}
+use Prim.Native.Nat.{ℕ, suc, ◌+◌, ◌-◌, ◌≤◌, ◌<◌, ◌^◌}
 use native.Mathlib.Nat.{sub-zero}
 use native.Mathlib.Decide.{dec_lt}
 use native.Mathlib.Omega.{arith}
 use borrow.Author.Tests.{lt-ltb, le-ltb}
 use lib.Dec.{ltb, eqb}
 use lib.Pow.{pow_pos}
-use Rattle.sets.specs.Lists.{◌∈◌, pick, cons_if, value_or, from, upto, keep}
+use Rattle.sets.specs.Lists.{pick, cons_if, value_or, from, upto, keep}
 use Rattle.sets.specs.Sets.{has, set_of, members, lowest, common, difference, everybody}
 use Rattle.sets.specs.Stored.{width}
 use Rattle.sets.proofs.Lists.{and-true, and-true-end, and-false-end, keep-keep, keep-cong, keep_append, keep-nothing, keep-everything, upto-in, from-lo, from-hi, from-append}
@@ -26,8 +26,7 @@ use Rattle.cases.specs.Case.{most_steps}
 use Rattle.boards.specs.Board.{allowed_on, ready_on, fits_on}
 use Rattle.boards.specs.Arena.{Done, by, put_on, board_arena}
 use Rattle.tries.specs.Trying.{step_on, Alone, asked, InLine}
-use Rattle.games.proofs.Cuts.{plus-plus, plus-zero}
-use Rattle.tries.proofs.Scans.{Step, stop, go, Hunt, turn, judged, scan, scan-cong, Inside, Going, going_start}
+use Rattle.tries.proofs.Scans.{Step, stop, go, Hunt, turn, judged, scan, scan-cong, Inside}
 use Rattle.games.proofs.Few.{few-start}
 use Rattle.tries.proofs.Hunts.{trial, told-once, first, seek-scan, one_more, counting, tally-scan}
 

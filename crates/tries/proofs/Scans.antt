@@ -1,26 +1,26 @@
 -- One scan for every search at a position: a line of people, each a trial, and among them those with whom every rule holds, whose placing is judged.
 -- One law for each way through a turn of a search's loop.
 use mathlib.Core.Path.{◌≡◌, refl, sym, ap, ap₂, ◌∙◌}
-use mathlib.Core.Logic.{◌⊎◌, inl, inr}
+use mathlib.Core.Logic.{inl, inr}
 use mathlib.Core.Option.{Option, none, some}
-use mathlib.Core.Bool.{Bool, true, false, ◌&&◌, true≢false}
+use mathlib.Core.Bool.{Bool, true, false, ◌&&◌}
 use mathlib.Core.List.{List, [], ◌∷◌, ◌++◌, append-nil}
-use Prim.Native.Nat.{ℕ, zero, suc, ◌+◌, ◌-◌, ◌≤◌, ◌<◌}
+use Prim.Native.Nat.{ℕ, suc, ◌+◌, ◌-◌, ◌≤◌, ◌<◌}
 use native.Mathlib.Numerals.{one-add}
 use native.Mathlib.Omega.{arith}
-use borrow.Author.Tests.{leb-true, leb-false, lt-ltb, le-ltb, ltb-true}
-use lib.Dec.{leb, ltb}
+use borrow.Author.Tests.{leb-true, leb-false}
+use lib.Dec.{ltb}
 use lib.ListN.{length, length-append}
-use Rattle.sets.specs.Lists.{◌∈◌, pick, only_if}
-use Rattle.sets.specs.Sets.{has, size, size_before, lowest, members, after, set_of}
+use Rattle.sets.specs.Lists.{◌∈◌, pick}
+use Rattle.sets.specs.Sets.{has, size, size_before, lowest, members, after}
 use Rattle.sets.specs.Stored.{width}
 use Rattle.sets.proofs.Lists.{and-true, true-and, and-true-end}
 use Rattle.sets.proofs.Counting.{has-set_of}
-use Rattle.sets.proofs.Members.{members-in, members-length, lowest-nobody, lowest-some, lowest-least, lowest-size, Split, members-split}
+use Rattle.sets.proofs.Members.{members-in, members-length, lowest-nobody, lowest-some, lowest-least, members-split}
 use Rattle.games.specs.Walks.{Walk, plus}
 use Rattle.games.specs.Limit.{stopped, whole, cut}
 use Rattle.tries.specs.Trying.{trials_to, tried}
-use Rattle.games.proofs.Cuts.{plus-plus, plus-trials, plus-zero, Finished, finished, over, ends, stops, only-some, only_none}
+use Rattle.games.proofs.Cuts.{plus-plus, plus-trials, plus-zero, finished, over, ends, stops, only-some, only_none}
 
 -- after a person was placed and judged: stop with an answer, or go on
 pub data Step (R S : Type 0) : Type 0 where

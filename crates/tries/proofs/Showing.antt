@@ -1,6 +1,6 @@
 -- The good people that the dynamic walk has found so far: how many, and the set of them.
-use mathlib.Core.Path.{◌≡◌, refl, sym, ap, ap₂, ◌∙◌}
-use mathlib.Core.Bool.{Bool, true, false, ◌&&◌, ◌||◌}
+use mathlib.Core.Path.{◌≡◌, sym, ap, ap₂, ◌∙◌}
+use mathlib.Core.Bool.{Bool, true, false, ◌||◌}
 use mathlib.Core.Option.{none}
 use Prim.Native.Nat.{ℕ, ◌+◌, ◌^◌, ◌≤◌, ◌<◌}
 use native.Mathlib.Omega.{arith}
@@ -10,11 +10,11 @@ use lib.Pow.{pow_pos}
 use Rattle.sets.specs.Lists.{pick}
 use Rattle.sets.specs.Sets.{has, with, after}
 use Rattle.sets.specs.Stored.{width}
-use Rattle.sets.proofs.Lists.{and-true, or-false-end}
+use Rattle.sets.proofs.Lists.{and-true}
 use Rattle.sets.proofs.Bits.{has-empty}
 use Rattle.sets.proofs.Counting.{set_of-lt, has-set_of}
 use Rattle.sets.proofs.Masks.{with-new}
-use Rattle.tries.proofs.Scans.{Step, stop, go, has-after}
+use Rattle.tries.proofs.Scans.{stop, go, has-after}
 use Rattle.tries.proofs.Lines.{count_good}
 
 -- T are still in line, S are those found

@@ -3,15 +3,15 @@ use mathlib.Core.Path.{◌≡◌, refl, sym, ap, ap₂, ◌∙◌, subst}
 use mathlib.Core.Option.{Option, none, some}
 use mathlib.Core.List.{List, [], ◌∷◌, ◌++◌, append_assoc}
 use mathlib.Core.Logic.{inl}
-use Prim.Native.Nat.{ℕ, zero, suc, ◌+◌, ◌-◌, ◌≤◌, ◌<◌, ◌^◌}
+use Prim.Native.Nat.{ℕ, ◌+◌, ◌-◌, ◌≤◌, ◌<◌, ◌^◌}
 use native.Mathlib.Omega.{arith}
 use Rattle.sets.specs.Lists.{◌∈◌}
 use Rattle.sets.specs.Sets.{size, sets, next_set}
 use Rattle.sets.proofs.Lists.{mem-middle}
 use Rattle.sets.proofs.Listed.{sets-in, sets_first, sets-on, sets_over, sets-apart}
-use Rattle.games.specs.Walks.{Walk, Search, plus, or_else, seek}
+use Rattle.games.specs.Walks.{Search, plus, or_else, seek}
 use Rattle.games.specs.Limit.{stopped, whole, cut}
-use Rattle.games.proofs.Cuts.{plus-plus, plus-zero, plus-trials, Finished, finished, over, ends, stops}
+use Rattle.games.proofs.Cuts.{plus-plus, plus-zero, finished, over, ends, stops}
 
 module _ {B : Type 0} where
   -- the first of a list gets something, or nothing

@@ -1,11 +1,11 @@
 -- Where each search's loop starts, what a search answers with no step left, and the position that a placing leaves.
 use mathlib.Core.Path.{◌≡◌, refl, sym, ap, ap₂, ◌∙◌}
 use mathlib.Core.Option.{Option, none, some}
-use mathlib.Core.List.{List, [], ◌∷◌, ◌++◌}
-use Prim.Native.Nat.{ℕ, zero, suc, ◌+◌, ◌-◌, ◌≤◌, ◌<◌, ◌^◌, min}
+use mathlib.Core.List.{List, [], ◌∷◌}
+use Prim.Native.Nat.{ℕ, suc, ◌-◌, ◌≤◌, ◌<◌, ◌^◌, min}
 use native.Mathlib.Nat.{min-eq_left, lt_of_lt_of_le}
 use native.Mathlib.Omega.{arith}
-use Rattle.sets.specs.Sets.{size, members, sets, next_set}
+use Rattle.sets.specs.Sets.{size, sets, next_set}
 use Rattle.sets.specs.Stored.{width, number, no_people, next_number}
 use Rattle.sets.specs.declared.Next.{Next}
 use Rattle.sets.specs.declared.Next.TheVariants as next
@@ -14,7 +14,7 @@ use lib.Pow.{pow_mono}
 use Rattle.sets.proofs.Counting.{size-width}
 use Rattle.sets.proofs.Records.{number-none}
 use Rattle.games.specs.Arena.{Arena}
-use Rattle.games.specs.Walks.{Walk, Search, lacking, if_none, or_else, seek, plan, static, decremental, one_shot, dynamic, advice}
+use Rattle.games.specs.Walks.{Search, lacking, if_none, or_else, seek, plan, static, decremental, one_shot, dynamic, advice}
 use Rattle.games.specs.Limit.{stopped, whole, cut}
 use Rattle.games.proofs.Limits.{cut-past}
 use Rattle.games.proofs.Gone.{all-gone}
@@ -26,7 +26,7 @@ use Rattle.boards.specs.Arena.{Done, by, put_on, board_arena}
 use Rattle.tries.specs.Outcomes.{beats_on, pass_on}
 use Rattle.tries.specs.Trying.{step_on, Alone, InLine}
 use Rattle.games.proofs.Cuts.{plus-zero, finished, over, ends}
-use Rattle.tries.proofs.Scans.{Hunt, scan, Going, going_start}
+use Rattle.tries.proofs.Scans.{Hunt, Going, going_start}
 use Rattle.tries.proofs.Hunts.{first}
 use Rattle.tries.proofs.Lines.{naming, beating, showing, fit-inside, plan-line, turn-line, advice-line, dynamic-line}
 use Rattle.tries.proofs.Sweeps.{Sweep, sweep-start}

@@ -1,0 +1,10 @@
+use mathlib.Core.Path.{◌∙◌}
+use native.Mathlib.Omega.{arith}
+use Rattle.judging.proofs.Entries.{past-byte}
+use Rattle.judging.proofs.bad_step.Goals as goal
+
+pub returns-then-past : goal.returns-then-past
+returns-then-past c = simp (past-byte _ _ (omega arith) c.past.ensures ∙ c.if-past.true)
+
+pub returns : goal.returns
+returns c = simp (past-byte _ _ (omega arith) c.past.ensures ∙ c.if-past.false)

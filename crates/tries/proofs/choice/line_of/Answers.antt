@@ -1,0 +1,16 @@
+-- The line of a step, the same from every position that agrees at the steps looked at.
+use mathlib.Core.Path.{ap, ap₂, ◌∙◌}
+use Prim.Native.Nat.{ℕ}
+use Rattle.sets.specs.Sets.{common}
+use Rattle.sets.specs.Stored.{width}
+use Rattle.boards.specs.Board.{fits_on}
+use Rattle.lines.proofs.Taking.{is-stored}
+use Rattle.tries.proofs.choice.line_of.Goals as goal
+
+pub returns : goal.returns
+returns c = λ q a.
+    let at = c in
+    let start = at in
+    let tried = at.common-tried.ensures ∙ ap₂ (common width) at.allowed.ensures at.everybody.ensures in
+    ap₂ (λ x y. record { step = start.args.s; tried = x; fit = y }) (is-stored _ _ tried)
+    (is-stored _ _ (c.fitting-fitted.ensures q a ∙ ap (λ (x : ℕ). common width x (fits_on start.args.board.now q start.args.s.0)) tried))
