@@ -8,8 +8,8 @@ use second_draws::below;
 use second_files::{ROOM, Turned, down, first, minus, plus, steps, to_8, turned_by};
 use second_lines::{TEXT, put_asked, put_case, put_plan, put_refused, put_verdict};
 use second_tally::{TALLY, TEXTS, count, count_exported, is_first};
-use telling::{Text, tell};
 use std::io;
+use telling::{Text, tell};
 
 // What stands in a lent array before a call.
 const MARK: u8 = 165;
@@ -19,7 +19,8 @@ const INPUT: usize = 1046;
 
 // A good case with its answers: the seven lines, at a limit by chance; and the refusal of a t above 32.
 pub fn try_text(
-    rt: &impl Print, seed: &mut [usize; 1],
+    rt: &impl Print,
+    seed: &mut [usize; 1],
     tally: &mut [usize; TALLY],
     file: &[u8; ROOM],
     length: usize,
@@ -99,7 +100,8 @@ fn largest(five: Five) -> usize {
 
 // The first n bytes of an input that is refused: one line.
 pub fn try_refused_text(
-    rt: &impl Print, seed: &mut [usize; 1],
+    rt: &impl Print,
+    seed: &mut [usize; 1],
     tally: &mut [usize; TALLY],
     file: &[u8; ROOM],
     length: usize,
@@ -117,7 +119,8 @@ pub fn try_refused_text(
 
 // The text for the first n bytes of t, the limit and the file; and the exported function, with a buffer by chance.
 fn try_input(
-    rt: &impl Print, seed: &mut [usize; 1],
+    rt: &impl Print,
+    seed: &mut [usize; 1],
     tally: &mut [usize; TALLY],
     file: &[u8; ROOM],
     length: usize,
@@ -188,7 +191,8 @@ fn is_held(buffer: &[u8; TEXT], text: &[u8; TEXT], end: usize) -> bool {
 
 // Tells a difference, with the text as it must be.
 fn expect_text(
-    rt: &impl Print, tally: &mut [usize; TALLY],
+    rt: &impl Print,
+    tally: &mut [usize; TALLY],
     file: &[u8; ROOM],
     length: usize,
     same: bool,
