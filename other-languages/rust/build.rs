@@ -1,4 +1,4 @@
-//! Links librodcrank.a, which `rt staticlib rodcrank` writes to target/staticlib at the top of the repository. RODCRANK_LIB names another folder.
+//! Links librodcrank.a, which `other-languages/run library` writes to target/staticlib at the top of the repository. RODCRANK_LIB names another folder.
 use std::{env, path::Path};
 
 fn main() {
@@ -8,7 +8,7 @@ fn main() {
     println!("cargo:rerun-if-env-changed=RODCRANK_LIB");
     println!("cargo:rerun-if-changed={}", archive.display());
     if !archive.exists() {
-        panic!("there is no {}: `rt staticlib rodcrank` writes it", archive.display());
+        panic!("there is no {}: `other-languages/run library` writes it", archive.display());
     }
     println!("cargo:rustc-link-search=native={}", folder.display());
     println!("cargo:rustc-link-lib=static=rodcrank");

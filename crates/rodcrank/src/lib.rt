@@ -1,7 +1,7 @@
-// The planner for other languages: functions that C and Rust call, on a file's bytes and plain numbers. Each reads the case from its file, asks the
-// planner, and leaves one answer of 18 numbers in the caller's array; the crate `replies` says what stands at each place. A refused file is asked
-// nothing; the case of a good one is judged once, when it is read. No exported function has a `requires`, none keeps anything, and nothing but the
-// caller's answer or text is written.
+// The planner for other languages: functions on a file's bytes and plain numbers, which C and Rust call through the archive of `rodcrank_c`: a library
+// exports nothing itself. Each reads the case from its file, asks the planner, and leaves one answer of 18 numbers in the caller's array; the crate
+// `replies` says what stands at each place. A refused file is asked nothing; the case of a good one is judged once, when it is read. No exported
+// function has a `requires`, none keeps anything, and nothing but the caller's answer or text is written.
 #![tactic(auto)]
 
 ghost use Rattle.std.specs.Prelude.{◌≡◌, ◌≤◌, length, take};

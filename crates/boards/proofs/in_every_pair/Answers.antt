@@ -13,24 +13,18 @@ loop-x-init c = narrowed-start _ _ _ _ (omega arith) c.lowest_in-x.ensures
 
 pub returns-then-is_none : goal.returns-then-is_none
 returns-then-is_none c =
-    let at = c in
-    let turn = at in
-    let start = turn in
-    every-pair _ _ _ _ (omega arith) _ start.everybody_if-every.ensures _
-    (narrowed_none _ turn.loop-x.invariant turn.loop-x-test.true at.common-every.result (by-common _ _ _ _ (pair-here _ _ _ _ _ _ _ at.pair.ensures) at.common-every.ensures)
+    every-pair _ _ _ _ (omega arith) _ c.everybody_if-every.ensures _
+    (narrowed_none _ c.loop-x.invariant c.loop-x-test.true c.common-every.result (by-common _ _ _ _ (pair-here _ _ _ _ _ _ _ c.pair.ensures) c.common-every.ensures)
     (eqb-true _ _ (sym c.is_none.ensures ∙ c.if-is_none.true)))
 
 pub loop-x-smaller : goal.loop-x-smaller
 loop-x-smaller c =
-    let turn = c in
-    over-less turn.loop-x.invariant.over turn.loop-x-test.true _ c.without-left.ensures
+    over-less c.loop-x.invariant.over c.loop-x-test.true _ c.without-left.ensures
 
 pub loop-x-preserved : goal.loop-x-preserved
 loop-x-preserved c =
-    let at = c in
-    let turn = at in
-    narrowed-step _ turn.loop-x.invariant turn.loop-x-test.true _ _ at.common-every.result c.without-left.ensures c.lowest_in-x-in-loop-x.ensures
-    (by-common _ _ _ _ (pair-here _ _ _ _ _ _ _ at.pair.ensures) at.common-every.ensures)
+    narrowed-step _ c.loop-x.invariant c.loop-x-test.true _ _ c.common-every.result c.without-left.ensures c.lowest_in-x-in-loop-x.ensures
+    (by-common _ _ _ _ (pair-here _ _ _ _ _ _ _ c.pair.ensures) c.common-every.ensures)
 
 pub returns : goal.returns
 returns c = every-pair _ _ _ _ (omega arith) _ c.everybody_if-every.ensures _ (narrowed-end _ c.loop-x.invariant c.loop-x-test.false)

@@ -15,29 +15,22 @@ loop-x-init c = narrowed-start _ _ _ _ (omega arith) c.lowest_in-x.ensures
 
 pub returns-then-is_none : goal.returns-then-is_none
 returns-then-is_none c =
-    let at = c in
-    let turn = at in
-    let start = turn in
     let nobody = eqb-true _ _ (sym c.is_none.ensures ∙ c.if-is_none.true) in
-    some-pair-all _ _ _ _ (omega arith) _ start.everybody_if-out.ensures _ _
-    (narrowed_none _ turn.loop-x.invariant turn.loop-x-test.true at.difference-out.result
-    (by_difference _ _ _ _ (pair-here _ _ _ _ _ _ _ at.pair.ensures) at.difference-out.ensures) nobody) nobody c.everybody_if.ensures
+    some-pair-all _ _ _ _ (omega arith) _ c.everybody_if-out.ensures _ _
+    (narrowed_none _ c.loop-x.invariant c.loop-x-test.true c.difference-out.result
+    (by_difference _ _ _ _ (pair-here _ _ _ _ _ _ _ c.pair.ensures) c.difference-out.ensures) nobody) nobody c.everybody_if.ensures
 
 pub loop-x-smaller : goal.loop-x-smaller
 loop-x-smaller c =
-    let turn = c in
-    over-less turn.loop-x.invariant.over turn.loop-x-test.true _ c.without-left.ensures
+    over-less c.loop-x.invariant.over c.loop-x-test.true _ c.without-left.ensures
 
 pub loop-x-preserved : goal.loop-x-preserved
 loop-x-preserved c =
-    let at = c in
-    let turn = at in
-    narrowed-step _ turn.loop-x.invariant turn.loop-x-test.true _ _ at.difference-out.result c.without-left.ensures c.lowest_in-x-in-loop-x.ensures
-    (by_difference _ _ _ _ (pair-here _ _ _ _ _ _ _ at.pair.ensures) at.difference-out.ensures)
+    narrowed-step _ c.loop-x.invariant c.loop-x-test.true _ _ c.difference-out.result c.without-left.ensures c.lowest_in-x-in-loop-x.ensures
+    (by_difference _ _ _ _ (pair-here _ _ _ _ _ _ _ c.pair.ensures) c.difference-out.ensures)
 
 pub returns : goal.returns
 returns c =
-    let at = c in
-    let all = at.everybody_if-out.ensures in
-    some_pair _ _ _ _ (omega arith) _ all _ _ (narrowed-end _ at.loop-x.invariant at.loop-x-test.false)
-    (c.difference.ensures ∙ ap (λ (z : ℕ). difference width z (number at.loop-x.out)) (c.everybody_if-2.ensures ∙ sym all))
+    let all = c.everybody_if-out.ensures in
+    some_pair _ _ _ _ (omega arith) _ all _ _ (narrowed-end _ c.loop-x.invariant c.loop-x-test.false)
+    (c.difference.ensures ∙ ap (λ (z : ℕ). difference width z (number c.loop-x.out)) (c.everybody_if-2.ensures ∙ sym all))

@@ -8,9 +8,7 @@ use Rattle.boards.proofs.kept_by.Goals as goal
 pub returns-then-without-eq0 : goal.returns-then-without-eq0
 unfolding number
 returns-then-without-eq0 c =
-    let w = c in
-    let low = w in
-    kept-one _ _ _ _ _ _ (omega arith) (one-member _ _ _ low.lowest_in-x.ensures w.if-x-lt32.true w.without.ensures c.if-without-eq0.true) c.pair.ensures (omega arith)
+    kept-one _ _ _ _ _ _ (omega arith) (one-member _ _ _ c.lowest_in-x.ensures c.if-x-lt32.true c.without.ensures c.if-without-eq0.true) c.pair.ensures (omega arith)
 
 pub returns : goal.returns
 returns c = c.keepers.ensures

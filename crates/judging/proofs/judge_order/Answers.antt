@@ -25,10 +25,8 @@ overflow_add-steps_at c = omega arith
 
 pub returns-then-bad_step : goal.returns-then-bad_step
 returns-then-bad_step c =
-    let taken = c in
-    let turn = taken in
-    let n = turn.args.n in
-    first-fails 9 (step_place n) turn.loop-i.invariant (omega arith) taken.bad_step.ensures taken.if-bad_step.true c.refuse.ensures (omega arith)
+    let n = c.args.n in
+    first-fails 9 (step_place n) c.loop-i.invariant (omega arith) c.bad_step.ensures c.if-bad_step.true c.refuse.ensures (omega arith)
 
 pub overflow_add-i : goal.overflow_add-i
 overflow_add-i c = omega arith

@@ -25,9 +25,7 @@ overflow_add-i c = omega arith
 
 pub returns-then-past : goal.returns-then-past
 returns-then-past c =
-    let taken = c in
-    let turn = taken in
-    first-fails 7 person_place turn.loop-i.invariant (omega arith) taken.past.ensures taken.if-past.true c.refuse.ensures (omega arith)
+    first-fails 7 person_place c.loop-i.invariant (omega arith) c.past.ensures c.if-past.true c.refuse.ensures (omega arith)
 
 pub overflow_add-i-in-loop-i : goal.overflow_add-i-in-loop-i
 overflow_add-i-in-loop-i c = omega arith

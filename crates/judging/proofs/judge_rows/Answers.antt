@@ -22,10 +22,8 @@ overflow_add-tables_at c = omega arith
 
 pub returns-then-past : goal.returns-then-past
 returns-then-past c =
-    let taken = c in
-    let turn = taken in
-    let n = turn.args.n in
-    first-fails 10 (row_place n) turn.loop-i.invariant (omega arith) taken.past.ensures taken.if-past.true c.refuse.ensures (omega arith)
+    let n = c.args.n in
+    first-fails 10 (row_place n) c.loop-i.invariant (omega arith) c.past.ensures c.if-past.true c.refuse.ensures (omega arith)
 
 pub overflow_add-i : goal.overflow_add-i
 overflow_add-i c = omega arith

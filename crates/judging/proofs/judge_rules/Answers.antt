@@ -25,10 +25,8 @@ overflow_add-rules_at c = omega arith
 
 pub returns-then-bad_rule : goal.returns-then-bad_rule
 returns-then-bad_rule c =
-    let taken = c in
-    let turn = taken in
-    let n = turn.args.n in
-    first-fails 11 (rule_place n) turn.loop-i.invariant (omega arith) taken.bad_rule.ensures taken.if-bad_rule.true c.refuse.ensures (omega arith)
+    let n = c.args.n in
+    first-fails 11 (rule_place n) c.loop-i.invariant (omega arith) c.bad_rule.ensures c.if-bad_rule.true c.refuse.ensures (omega arith)
 
 pub overflow_add-i : goal.overflow_add-i
 overflow_add-i c = omega arith

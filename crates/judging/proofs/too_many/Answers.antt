@@ -18,13 +18,8 @@ returns-then-n-gt-ROLES c = simp (le-ltb _ _ c.if-n-gt-PEOPLE.false, le-ltb _ _ 
 pub returns-then-n-gt-TABLES : goal.returns-then-n-gt-TABLES
 unfolding too_many
 returns-then-n-gt-TABLES c =
-    let third = c in
-    let second = third in
-    simp (le-ltb _ _ second.if-n-gt-PEOPLE.false, le-ltb _ _ second.if-n-gt-STEPS.false, le-ltb _ _ third.if-n-gt-ROLES.false, lt-ltb _ _ c.if-n-gt-TABLES.true)
+    simp (le-ltb _ _ c.if-n-gt-PEOPLE.false, le-ltb _ _ c.if-n-gt-STEPS.false, le-ltb _ _ c.if-n-gt-ROLES.false, lt-ltb _ _ c.if-n-gt-TABLES.true)
 
 pub returns : goal.returns
 returns c =
-    let fourth = c in
-    let third = fourth in
-    let second = third in
-    counts-left _ second.if-n-gt-PEOPLE.false second.if-n-gt-STEPS.false third.if-n-gt-ROLES.false fourth.if-n-gt-TABLES.false
+    counts-left _ c.if-n-gt-PEOPLE.false c.if-n-gt-STEPS.false c.if-n-gt-ROLES.false c.if-n-gt-TABLES.false

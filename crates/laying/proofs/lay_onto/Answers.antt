@@ -5,37 +5,19 @@ use Rattle.laying.proofs.lay_onto.Goals as goal
 
 pub put_table_words-requires : goal.put_table_words-requires
 put_table_words-requires c =
-    let sizes = c in
-    let start = sizes in
-    omega (arith, sizes.sizes_of-n.ensures.rows, rows_few start.args.c.counts.tables start.args.c.counts.people start.requires.0.tables start.requires.0.people)
+    omega (arith, c.sizes_of-n.ensures.rows, rows_few c.args.c.counts.tables c.args.c.counts.people c.requires.0.tables c.requires.0.people)
 
 pub first_of-requires : goal.first_of-requires
 first_of-requires c =
-    let sizes = c in
-    omega (arith, sizes.sizes_of-n.ensures.steps, sizes.requires.0.steps)
+    omega (arith, c.sizes_of-n.ensures.steps, c.requires.0.steps)
 
 pub first_of-requires-2 : goal.first_of-requires-2
 first_of-requires-2 c =
-    let sizes = c in
-    omega (arith, sizes.sizes_of-n.ensures.rules, sizes.requires.0.rules)
+    omega (arith, c.sizes_of-n.ensures.rules, c.requires.0.rules)
 
 pub returns : goal.returns
 returns c =
-    let whole-rules = c in
-    let ready = whole-rules.before.before.before in
-    let whole-steps = ready.before in
-    let rules = whole-steps.before.before.before in
-    let named = rules.before.before in
-    let allowed = named.before.before.before in
-    let loops = allowed.before.before.before in
-    let columns = loops.before.before in
-    let rows = columns.before.before in
-    let following = rows.before.before.before in
-    let naming = following.before in
-    let words = naming.before in
-    let sizes = words.before.before.before.before.before in
-    let start = sizes.before in
-    laid start.args.c start.args.order start.requires.0 _ sizes.sizes-of.ensures _ _ _ _ _ _ _ _ _ _ _ _ _ _
-    naming.named-words.ensures following.following-words.ensures words.put-table-words.ensures start.requires.1 rows.put-rows.ensures
-    columns.put-columns.ensures loops.put-loops.ensures allowed.put-allowed.ensures named.put-named.ensures rules.put-rules.ensures
-    whole-steps.first_of.ensures ready.put-halves.ensures whole-rules.first-of2.ensures c.put_halves-2.ensures
+    laid c.args.c c.args.order c.requires.0 _ c.sizes_of-n.ensures _ _ _ _ _ _ _ _ _ _ _ _ _ _
+    c.named_words-named.ensures c.following_words-following.ensures c.put_table_words.ensures c.requires.1 c.put_rows.ensures
+    c.put_columns.ensures c.put_loops.ensures c.put_allowed.ensures c.put_named.ensures c.put_rules.ensures
+    c.first_of.ensures c.put_halves.ensures c.first_of-2.ensures c.put_halves-2.ensures

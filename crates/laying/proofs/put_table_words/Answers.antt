@@ -9,5 +9,4 @@ use Rattle.laying.proofs.put_table_words.Goals as goal
 
 pub returns-then-n-eq0 : goal.returns-then-n-eq0
 returns-then-n-eq0 c =
-    let start = c in
-    from_start 0 (λ i. number (get_or start.args.c.rows i no_people)) _ ∙ ap (λ (n : ℕ). laid_from 0 n (λ i. number (get_or start.args.c.rows i no_people)) start.args.out.now) (sym c.if-n-eq0.true)
+    from_start 0 (λ i. number (get_or c.args.c.rows i no_people)) _ ∙ ap (λ (n : ℕ). laid_from 0 n (λ i. number (get_or c.args.c.rows i no_people)) c.args.out.now) (sym c.if-n-eq0.true)

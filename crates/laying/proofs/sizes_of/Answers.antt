@@ -5,5 +5,4 @@ use Rattle.laying.proofs.sizes_of.Goals as goal
 
 pub overflow_mul-result : goal.overflow_mul-result
 overflow_mul-result c =
-    let start = c in
-    omega (arith, rows_few start.args.n.tables start.args.n.people start.requires.tables start.requires.people)
+    omega (arith, rows_few c.args.n.tables c.args.n.people c.requires.tables c.requires.people)

@@ -23,10 +23,8 @@ loop-s-smaller c = omega arith
 
 pub loop-s-preserved : goal.loop-s-preserved
 loop-s-preserved c =
-    let step = c in
-    let test = step in
-    let inv = test.loop-s.invariant in
-    (omega arith, waiting-step _ inv.1 (omega arith) _ step.before-in-loop-s.ensures c.wait.ensures)
+    let inv = c.loop-s.invariant in
+    (omega arith, waiting-step _ inv.1 (omega arith) _ c.before-in-loop-s.ensures c.wait.ensures)
 
 pub returns : goal.returns
 returns c = waiting-end _ c.loop-s.invariant.1 (omega arith)

@@ -23,10 +23,8 @@ loop-i-smaller c = omega arith
 
 pub loop-i-preserved : goal.loop-i-preserved
 loop-i-preserved c =
-    let step = c in
-    let test = step in
-    let inv = test.loop-i.invariant in
-    (omega arith, waiting-step _ inv.1 (omega arith) _ step.with_step.ensures c.wait.ensures)
+    let inv = c.loop-i.invariant in
+    (omega arith, waiting-step _ inv.1 (omega arith) _ c.with_step.ensures c.wait.ensures)
 
 pub returns : goal.returns
 returns c = waiting-end _ c.loop-i.invariant.1 (omega arith)

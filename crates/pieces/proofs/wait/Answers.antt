@@ -35,8 +35,7 @@ loop-x-smaller c = omega arith
 
 pub loop-x-preserved : goal.loop-x-preserved
 loop-x-preserved c =
-    let loop = c in
-    put_step _ _ _ _ loop.loop-x.invariant c.loop-x-test.true loop.loop-x.x _ (omega arith) (wait-here _ _ _ _ loop.loop-x.invariant c.with_if_in.ensures)
+    put_step _ _ _ _ c.loop-x.invariant c.loop-x-test.true c.loop-x.x _ (omega arith) (wait-here _ _ _ _ c.loop-x.invariant c.with_if_in.ensures)
 
 pub returns : goal.returns
 returns c = put-end _ _ _ _ c.loop-x.invariant c.loop-x-test.false

@@ -10,8 +10,7 @@ fits : (c : goal.In-loop-j)
     → let l = c.loop-j in let w = c.args.w in let sums = c.args.sums in
     (w * l.before < 2 ^ 63) × (entry sums l.j + w * l.before < 2 ^ 64)
 fits c =
-    let at = c in
-    joining-fits at.args.sums _ c.loop-j.invariant c.loop-j-test.true at.requires.1 refl at.ranges.w.fits
+    joining-fits c.args.sums _ c.loop-j.invariant c.loop-j-test.true c.requires.1 refl c.ranges.w.fits
 
 pub returns-then-w-eq0 : goal.returns-then-w-eq0
 returns-then-w-eq0 c = joining-nobody c.args.sums _ _ c.requires.1 c.if-w-eq0.true

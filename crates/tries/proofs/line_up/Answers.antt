@@ -12,7 +12,6 @@ returns-then-at-ge-STEPS c = λ q a.
 
 pub returns : goal.returns
 returns c = λ q a.
-    let at = c in
-    line-is _ _ _ q _ (at.requires ∙ sym (step-agree _ a)) _ _ _ _ _ (omega arith)
-    at.allowed.ensures at.difference.ensures at.everybody.ensures
-    at.common-tried.ensures (c.fitting-fitted.ensures q a)
+    line-is _ _ _ q _ (c.requires ∙ sym (step-agree _ a)) _ _ _ _ _ (omega arith)
+    c.allowed.ensures c.difference.ensures c.everybody.ensures
+    c.common-tried.ensures (c.fitting-fitted.ensures q a)

@@ -8,10 +8,9 @@ use Rattle.sets.proofs.People.before.Goals as goal
 
 pub returns-then-is_none : goal.returns-then-is_none
 returns-then-is_none c =
-    let at = c in
     sym (size-empty width)
     ∙ ap (size width) (sym (eqb-true _ _ (sym c.is_none.ensures ∙ c.if-is_none.true)))
-    ∙ before-is width _ _ _ _ at.everybody.ensures at.common-earlier.ensures
+    ∙ before-is width _ _ _ _ c.everybody.ensures c.common-earlier.ensures
 
 pub returns : goal.returns
-returns c = let at = c in c.size.ensures ∙ before-is width _ _ _ _ at.everybody.ensures at.common-earlier.ensures
+returns c = c.size.ensures ∙ before-is width _ _ _ _ c.everybody.ensures c.common-earlier.ensures

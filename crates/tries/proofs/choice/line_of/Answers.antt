@@ -9,8 +9,6 @@ use Rattle.tries.proofs.choice.line_of.Goals as goal
 
 pub returns : goal.returns
 returns c = λ q a.
-    let at = c in
-    let start = at in
-    let tried = at.common-tried.ensures ∙ ap₂ (common width) at.allowed.ensures at.everybody.ensures in
-    ap₂ (λ x y. record { step = start.args.s; tried = x; fit = y }) (is-stored _ _ tried)
-    (is-stored _ _ (c.fitting-fitted.ensures q a ∙ ap (λ (x : ℕ). common width x (fits_on start.args.board.now q start.args.s.0)) tried))
+    let tried = c.common-tried.ensures ∙ ap₂ (common width) c.allowed.ensures c.everybody.ensures in
+    ap₂ (λ x y. record { step = c.args.s; tried = x; fit = y }) (is-stored _ _ tried)
+    (is-stored _ _ (c.fitting-fitted.ensures q a ∙ ap (λ (x : ℕ). common width x (fits_on c.args.board.now q c.args.s.0)) tried))

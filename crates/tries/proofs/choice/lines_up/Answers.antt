@@ -29,10 +29,9 @@ loop-s-smaller-then-holds c = omega arith
 
 pub loop-s-preserved-then-holds : goal.loop-s-preserved-then-holds
 loop-s-preserved-then-holds c = λ q a.
-    let made = c in
     let seen = c.joined_steps-looked.ensures in
-    filling-more _ _ _ _ _ _ (made.loop-s.invariant q (agree_left _ _ seen a)) (omega arith)
-    (sym made.holds.ensures ∙ made.if-holds.true) (made.line_of-made.ensures q (agree_right _ _ seen a)) refl
+    filling-more _ _ _ _ _ _ (c.loop-s.invariant q (agree_left _ _ seen a)) (omega arith)
+    (sym c.holds.ensures ∙ c.if-holds.true) (c.line_of-made.ensures q (agree_right _ _ seen a)) refl
 
 pub loop-s-smaller : goal.loop-s-smaller
 loop-s-smaller c = omega arith
