@@ -14,21 +14,24 @@ ghost use Rattle.std.specs.Prelude.{◌≤◌, length};
 
 use making::Making;
 use shown::{show, show_parts};
+use reading::read_full;
+use std::io;
 
-fn main() {
-    let mut input = io::large_buffer();
-    let n = io::read_full(0, &mut input);
-    tries(&input[..n]);
+fn main(rt: HostRuntime) -> io::Result<()> {
+    let mut input = [0u8; 65536];
+    let n = read_full(&mut rt.stdin(), &mut input)?;
+    tries(&rt, &input[..n])
 }
 
-fn tries(input: &[u8]) {
+fn tries(rt: &impl Print, input: &[u8]) -> io::Result<()> {
     let mut at = 0;
     while at < input.len() {
         let bar = find(input, at, b'|');
         let end = find(input, bar, b'\n');
-        tried(&input[at..bar], &input[bar..end]);
+        tried(rt, &input[at..bar], &input[bar..end])?;
         at = end + 1;
     }
+    Ok(())
 }
 
 // The first place from `from` on where the byte is `mark`, or the end.
@@ -47,18 +50,19 @@ fn find(s: &[u8], from: usize, mark: u8) -> usize
 }
 
 // One try: how the file is made, and its name after a bar and a space.
-fn tried(how: &[u8], bar_name: &[u8]) {
+fn tried(rt: &impl Print, how: &[u8], bar_name: &[u8]) -> io::Result<()> {
     if how.len() == 0 {
-        return;
+        return Ok(());
     }
     if bar_name.len() < 2 {
-        return;
+        return Ok(());
     }
     let file = made(how, Making::from(how[0])).file();
-    show(&bar_name[2..], file);
+    show(rt, &bar_name[2..], file)?;
     if how[0] < b'a' {
-        show_parts(file);
+        show_parts(rt, file)?;
     }
+    Ok(())
 }
 
 fn made(how: &[u8], from: Making) -> Making {

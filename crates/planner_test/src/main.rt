@@ -30,32 +30,35 @@ use planner_lines::{Line, Part, filled, find, read_line, starts, with_counts};
 use playing::{dodge, follow};
 use saying::{say, say_advice, say_away, say_plan, say_verdict};
 use sets::People;
+use reading::read_full;
+use std::io;
 
-fn main() {
-    let mut input = io::large_buffer();
-    let n = io::read_full(0, &mut input);
-    tries(&input[..n]);
+fn main(rt: HostRuntime) -> io::Result<()> {
+    let mut input = [0u8; 65536];
+    let n = read_full(&mut rt.stdin(), &mut input)?;
+    tries(&rt, &input[..n])
 }
 
-fn tries(input: &[u8]) {
+fn tries(rt: &impl Print, input: &[u8]) -> io::Result<()> {
     let mut case = Case::empty();
     let mut at = 0;
     while at < input.len() {
         let end = find(input, at, b'\n');
-        case = tried(&input[at..end], case);
+        case = tried(rt, &input[at..end], case)?;
         at = end + 1;
     }
+    Ok(())
 }
 
 // One line: what it makes of the case.
-fn tried(text: &[u8], case: Case) -> Case {
+fn tried(rt: &impl Print, text: &[u8], case: Case) -> io::Result<Case> {
     let line = read_line(text);
     let next = made(text, line, case);
-    say(text);
-    ask(text, line, next);
-    play(text, line, next);
-    say(b"\n");
-    next
+    say(rt, text)?;
+    ask(rt, text, line, next)?;
+    play(rt, text, line, next)?;
+    say(rt, b"\n")?;
+    Ok(next)
 }
 
 fn made(text: &[u8], line: Line, case: Case) -> Case {
@@ -80,47 +83,49 @@ fn made(text: &[u8], line: Line, case: Case) -> Case {
     case
 }
 
-fn ask(text: &[u8], line: Line, case: Case) {
+fn ask(rt: &impl Print, text: &[u8], line: Line, case: Case) -> io::Result<()> {
     let limit = line.number(0);
     let t = line.number(1);
     if starts(text, b"plan ") {
-        say_plan(plan(case, limit));
-        return;
+        say_plan(rt, plan(case, limit))?;
+        return Ok(());
     }
     if starts(text, b"static ") {
-        say_verdict(static_verdict(case, t, limit));
-        return;
+        say_verdict(rt, static_verdict(case, t, limit))?;
+        return Ok(());
     }
     if starts(text, b"decremental ") {
-        say_verdict(decremental_verdict(case, t, limit));
-        return;
+        say_verdict(rt, decremental_verdict(case, t, limit))?;
+        return Ok(());
     }
     if starts(text, b"one-shot ") {
-        say_verdict(one_shot_verdict(case, t, limit));
-        return;
+        say_verdict(rt, one_shot_verdict(case, t, limit))?;
+        return Ok(());
     }
     if starts(text, b"dynamic ") {
-        say_verdict(dynamic_verdict(case, t, limit));
+        say_verdict(rt, dynamic_verdict(case, t, limit))?;
     }
+    Ok(())
 }
 
-fn play(text: &[u8], line: Line, case: Case) {
+fn play(rt: &impl Print, text: &[u8], line: Line, case: Case) -> io::Result<()> {
     let limit = line.number(0);
     let t = line.number(1);
     if starts(text, b"advice ") {
         let absent = People::from_word(line.number(2));
-        say_advice(advice(case, line.position(3), t, absent, limit));
-        return;
+        say_advice(rt, advice(case, line.position(3), t, absent, limit))?;
+        return Ok(());
     }
     if starts(text, b"away ") {
-        say_away(away(case, line.position(2), t, limit));
-        return;
+        say_away(rt, away(case, line.position(2), t, limit))?;
+        return Ok(());
     }
     if starts(text, b"follow ") {
-        follow(case, t, limit, line);
-        return;
+        follow(rt, case, t, limit, line)?;
+        return Ok(());
     }
     if starts(text, b"dodge ") {
-        dodge(case, t, limit, line.number(2));
+        dodge(rt, case, t, limit, line.number(2))?;
     }
+    Ok(())
 }

@@ -4,32 +4,34 @@ use cases::{Case, Person, Position};
 use planner::{AdviceAnswer, AwayAnswer, advice, away};
 use planner_lines::Line;
 use sets::People;
+use std::io;
 
 // Asks for advice at the start and follows it, for as long as it names somebody and the line names a set.
-pub fn follow(case: Case, t: u32, limit: u32, line: Line) {
+pub fn follow(rt: &impl Print, case: Case, t: u32, limit: u32, line: Line) -> io::Result<()> {
     let mut p = Position::start();
     let mut i: u8 = 2;
     while i < Line::MOST {
         if line.count() <= (i as usize) {
-            return;
+            return Ok(());
         }
         let absent = People::from_word(line.number(i as usize));
-        match advice_said(case, p, t, absent, limit) {
+        match advice_said(rt, case, p, t, absent, limit)? {
             AdviceAnswer::Person(v, _) => {
                 p = p.placed(v);
             }
             _ => {
-                return;
+                return Ok(());
             }
         }
         i += 1;
     }
+    Ok(())
 }
 
-fn advice_said(case: Case, p: Position, t: u32, absent: People, limit: u32) -> AdviceAnswer {
+fn advice_said(rt: &impl Print, case: Case, p: Position, t: u32, absent: People, limit: u32) -> io::Result<AdviceAnswer> {
     let answer = advice(case, p, t, absent, limit);
-    say_advice(answer);
-    answer
+    say_advice(rt, answer)?;
+    Ok(answer)
 }
 
 // What became of a desk: somebody it wants is kept away, it cannot place somebody, or it completes a plan.
@@ -49,7 +51,7 @@ struct Tally {
 }
 
 // Plays away against so many desks. A desk is a list of persons, one for each step: those of desk d are the digits of d, the lowest first.
-pub fn dodge(case: Case, t: u32, limit: u32, desks: u32) {
+pub fn dodge(rt: &impl Print, case: Case, t: u32, limit: u32, desks: u32) -> io::Result<()> {
     let mut tally = Tally {
         kept_away: 0,
         cannot: 0,
@@ -60,12 +62,12 @@ pub fn dodge(case: Case, t: u32, limit: u32, desks: u32) {
         tally = tally.with(play_desk(case, t, limit, desk));
         desk += 1;
     }
-    say(b": kept away");
-    spaced(tally.kept_away as u64);
-    say(b" cannot");
-    spaced(tally.cannot as u64);
-    say(b" completes");
-    spaced(tally.completes as u64);
+    say(rt, b": kept away")?;
+    spaced(rt, tally.kept_away as u64)?;
+    say(rt, b" cannot")?;
+    spaced(rt, tally.cannot as u64)?;
+    say(rt, b" completes")?;
+    spaced(rt, tally.completes as u64)
 }
 
 impl Tally {

@@ -14,9 +14,10 @@ use second_shapes::tiny;
 use second_tally::{ONE_FAULT, TALLY, TWO_FAULTS, compare, count, expect};
 use second_texts::try_refused_text;
 use second_trips::{try_parts, try_refused_write};
+use std::io;
 
 // A small file with one fault, or with two where the second number is not 0.
-pub fn try_damaged(seed: &mut [usize; 1], tally: &mut [usize; TALLY], fault: usize, other: usize) {
+pub fn try_damaged(rt: &impl Print, seed: &mut [usize; 1], tally: &mut [usize; TALLY], fault: usize, other: usize) -> io::Result<()> {
     let mut file = [0u8; ROOM];
     let shape = tiny(seed);
     let good = draw(seed, &mut file, shape);
@@ -27,55 +28,57 @@ pub fn try_damaged(seed: &mut [usize; 1], tally: &mut [usize; TALLY], fault: usi
         length = damage(seed, &mut file, length, other);
         count(tally, TWO_FAULTS);
     }
-    try_file(seed, tally, &file, length);
+    try_file(rt, seed, tally, &file, length)
 }
 
-fn try_file(seed: &mut [usize; 1], tally: &mut [usize; TALLY], file: &[u8; ROOM], length: usize) {
+fn try_file(rt: &impl Print, seed: &mut [usize; 1], tally: &mut [usize; TALLY], file: &[u8; ROOM], length: usize) -> io::Result<()> {
     let ours = judged(file, length);
     let lent = first(file, length);
-    compare(tally, file, length, 7, refused_told(ours), ask_judge(lent));
+    compare(rt, tally, file, length, 7, refused_told(ours), ask_judge(lent))?;
     let r = files::read(lent);
     let theirs = r.judged;
     compare(
-        tally,
+        rt, tally,
         file,
         length,
         7,
         refused_told(ours),
         judged_told(theirs),
-    );
+    )?;
     if ours.number != 0 {
         let held = r.held;
-        expect(tally, file, length, 7, same_case(held, Case::empty()));
+        expect(rt, tally, file, length, 7, same_case(held, Case::empty()))?;
     }
-    try_parts(tally, file, length, ours.number == 0);
+    try_parts(rt, tally, file, length, ours.number == 0)?;
     if ours.number != 0 {
-        try_refused_exported(seed, tally, file, length, ours);
-        try_texts(seed, tally, file, length, ours);
+        try_refused_exported(rt, seed, tally, file, length, ours)?;
+        try_texts(rt, seed, tally, file, length, ours)?;
     }
     if in_memory(ours) {
         let case = case_of(seed, file, 4294967296);
-        try_refused_case(seed, tally, file, length, case, refused_told(ours));
-        try_refused_write(tally, file, length, case, refused_told(ours));
+        try_refused_case(rt, seed, tally, file, length, case, refused_told(ours))?;
+        try_refused_write(rt, tally, file, length, case, refused_told(ours))?;
     }
+    Ok(())
 }
 
 // The text of the file, whatever t is; and now and then of fewer bytes than stand before a file.
 fn try_texts(
-    seed: &mut [usize; 1],
+    rt: &impl Print, seed: &mut [usize; 1],
     tally: &mut [usize; TALLY],
     file: &[u8; ROOM],
     length: usize,
     ours: Turned,
-) {
+) -> io::Result<()> {
     let t = below(seed, 40);
     let limit = below(seed, 4294967296);
     let all = plus(6, length);
-    try_refused_text(seed, tally, file, length, t, limit, all, ours);
+    try_refused_text(rt, seed, tally, file, length, t, limit, all, ours)?;
     if below(seed, 8) == 0 {
         let n = below(seed, 30);
-        try_refused_text(seed, tally, file, length, t, limit, n, turned_by(1, 0));
+        try_refused_text(rt, seed, tally, file, length, t, limit, n, turned_by(1, 0))?;
     }
+    Ok(())
 }
 
 // Is it a number that a case in memory can meet?
@@ -88,42 +91,42 @@ fn in_memory(t: Turned) -> bool {
 
 // Every call refuses the case, whatever else it is given.
 fn try_refused_case(
-    seed: &mut [usize; 1],
+    rt: &impl Print, seed: &mut [usize; 1],
     tally: &mut [usize; TALLY],
     file: &[u8; ROOM],
     length: usize,
     case: Case,
     ours: Answer,
-) {
+) -> io::Result<()> {
     let t = to_32(below(seed, 40));
     let limit = to_32(below(seed, 3));
     let mut question: usize = 0;
     while question < 5 {
         compare(
-            tally,
+            rt, tally,
             file,
             length,
             question,
             ours,
             ask_verdict(question, case, t, limit),
-        );
+        )?;
         question += 1;
     }
     let position = position_of(below(seed, 65536), below(seed, 10));
     compare(
-        tally,
+        rt, tally,
         file,
         length,
         5,
         ours,
         ask_advice(case, position, t, below(seed, 64), limit),
-    );
+    )?;
     compare(
-        tally,
+        rt, tally,
         file,
         length,
         6,
         ours,
         ask_away(case, position, t, limit),
-    );
+    )
 }

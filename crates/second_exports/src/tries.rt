@@ -12,72 +12,73 @@ use second_replies::{
     persons, plan_reply, verdict_reply,
 };
 use second_tally::{TALLY, count_exported, is_first};
+use std::io;
 
 // A good file, whose answers are known: every function, at a limit by chance.
 pub fn try_exported(
-    seed: &mut [usize; 1],
+    rt: &impl Print, seed: &mut [usize; 1],
     slate: &[usize; SLATE],
     tally: &mut [usize; TALLY],
     file: &[u8; ROOM],
     length: usize,
     t: usize,
     five: Five,
-) {
+) -> io::Result<()> {
     let good = Answer {
         says: 1,
         shown: 0,
         trials: 0,
     };
     let theirs = call_judge(first(file, length));
-    compare_reply(tally, file, length, 0, good, judged_reply(good), theirs);
-    try_questions(seed, tally, file, length, t, five);
-    try_t_above(seed, tally, file, length);
-    try_positions(seed, slate, tally, file, length, t);
+    compare_reply(rt, tally, file, length, 0, good, judged_reply(good), theirs)?;
+    try_questions(rt, seed, tally, file, length, t, five)?;
+    try_t_above(rt, seed, tally, file, length)?;
+    try_positions(rt, seed, slate, tally, file, length, t)
 }
 
 fn try_questions(
-    seed: &mut [usize; 1],
+    rt: &impl Print, seed: &mut [usize; 1],
     tally: &mut [usize; TALLY],
     file: &[u8; ROOM],
     length: usize,
     t: usize,
     five: Five,
-) {
+) -> io::Result<()> {
     let plan = five.plan;
-    try_question(seed, tally, file, length, 0, t, plan);
+    try_question(rt, seed, tally, file, length, 0, t, plan)?;
     let fixed = five.fixed;
-    try_question(seed, tally, file, length, 1, t, fixed);
+    try_question(rt, seed, tally, file, length, 1, t, fixed)?;
     let growing = five.growing;
-    try_question(seed, tally, file, length, 2, t, growing);
+    try_question(rt, seed, tally, file, length, 2, t, growing)?;
     let struck = five.struck;
-    try_question(seed, tally, file, length, 3, t, struck);
+    try_question(rt, seed, tally, file, length, 3, t, struck)?;
     let changing = five.changing;
-    try_question(seed, tally, file, length, 4, t, changing);
+    try_question(rt, seed, tally, file, length, 4, t, changing)
 }
 
 // t above 32 is 12, but not for the plan.
 fn try_t_above(
-    seed: &mut [usize; 1],
+    rt: &impl Print, seed: &mut [usize; 1],
     tally: &mut [usize; TALLY],
     file: &[u8; ROOM],
     length: usize,
-) {
+) -> io::Result<()> {
     let above = refused_told(turned_by(12, 0));
     let question = plus(1, below(seed, 4));
     let high = plus(33, below(seed, 4294967263));
-    try_question(seed, tally, file, length, question, high, above);
+    try_question(rt, seed, tally, file, length, question, high, above)
 }
 
 // One of the five questions, 0 plan, 1 static, 2 decremental, 3 one-shot, 4 dynamic, at a limit by chance.
 fn try_question(
-    seed: &mut [usize; 1],
+    rt: &impl Print, seed: &mut [usize; 1],
     tally: &mut [usize; TALLY],
     file: &[u8; ROOM],
     length: usize,
     question: usize,
     t: usize,
     ours: Answer,
-) {
+) -> io::Result<()> {
     let limit = limit_for(seed, ours);
     let lent = first(file, length);
     let theirs = call_question(question, lent, to_32(t), limit_of(limit));
@@ -87,27 +88,28 @@ fn try_question(
     } else {
         verdict_reply(said)
     };
-    compare_reply(tally, file, length, plus(question, 1), said, reply, theirs);
+    compare_reply(rt, tally, file, length, plus(question, 1), said, reply, theirs)
 }
 
 // Advice and away at positions by chance; the last time with t above 32.
 fn try_positions(
-    seed: &mut [usize; 1],
+    rt: &impl Print, seed: &mut [usize; 1],
     slate: &[usize; SLATE],
     tally: &mut [usize; TALLY],
     file: &[u8; ROOM],
     length: usize,
     t: usize,
-) {
+) -> io::Result<()> {
     let mut i: usize = 0;
     while i < 4 {
         let asked = draw_position(seed, slate, file);
         let p = draw_pairs(seed, asked);
         let number = if i < 3 { t } else { plus(33, below(seed, 100)) };
-        try_advice(seed, slate, tally, file, length, number, p);
-        try_away(seed, slate, tally, file, length, number, p);
+        try_advice(rt, seed, slate, tally, file, length, number, p)?;
+        try_away(rt, seed, slate, tally, file, length, number, p)?;
         i += 1;
     }
+    Ok(())
 }
 
 // An absence set in two words.
@@ -134,14 +136,14 @@ fn draw_two_words(seed: &mut [usize; 1], n: usize, t: usize) -> Absent {
 }
 
 fn try_advice(
-    seed: &mut [usize; 1],
+    rt: &impl Print, seed: &mut [usize; 1],
     slate: &[usize; SLATE],
     tally: &mut [usize; TALLY],
     file: &[u8; ROOM],
     length: usize,
     t: usize,
     p: Pairs,
-) {
+) -> io::Result<()> {
     let absent = draw_two_words(seed, people(file), t);
     let ours = our_advice(slate, file, p, t, absent);
     let limit = limit_for(seed, ours);
@@ -156,7 +158,7 @@ fn try_advice(
     );
     let said = within(limit, ours);
     let reply = advice_reply(said, entries(p));
-    compare_reply(tally, file, length, 6, said, reply, theirs);
+    compare_reply(rt, tally, file, length, 6, said, reply, theirs)
 }
 
 fn wide(x: usize) -> u64 {
@@ -197,14 +199,14 @@ fn node_at(slate: &[usize; SLATE], p: Pairs) -> usize {
 }
 
 fn try_away(
-    seed: &mut [usize; 1],
+    rt: &impl Print, seed: &mut [usize; 1],
     slate: &[usize; SLATE],
     tally: &mut [usize; TALLY],
     file: &[u8; ROOM],
     length: usize,
     t: usize,
     p: Pairs,
-) {
+) -> io::Result<()> {
     let ours = our_away(slate, file, p, t);
     let limit = limit_for(seed, ours);
     let position = p.bytes;
@@ -215,7 +217,7 @@ fn try_away(
         limit_of(limit),
     );
     let said = within(limit, ours);
-    compare_reply(tally, file, length, 7, said, away_reply(said), theirs);
+    compare_reply(rt, tally, file, length, 7, said, away_reply(said), theirs)
 }
 
 fn our_away(slate: &[usize; SLATE], file: &[u8; ROOM], p: Pairs, t: usize) -> Answer {
@@ -228,20 +230,20 @@ fn our_away(slate: &[usize; SLATE], file: &[u8; ROOM], p: Pairs, t: usize) -> An
 
 // A refused file: every function says so, whatever else it is given.
 pub fn try_refused_exported(
-    seed: &mut [usize; 1],
+    rt: &impl Print, seed: &mut [usize; 1],
     tally: &mut [usize; TALLY],
     file: &[u8; ROOM],
     length: usize,
     turned: Turned,
-) {
+) -> io::Result<()> {
     let ours = refused_told(turned);
     let reply = judged_reply(ours);
     let lent = first(file, length);
-    compare_reply(tally, file, length, 0, ours, reply, call_judge(lent));
+    compare_reply(rt, tally, file, length, 0, ours, reply, call_judge(lent))?;
     let t = below(seed, 40);
     let mut question: usize = 0;
     while question < 5 {
-        try_question(seed, tally, file, length, question, t, ours);
+        try_question(rt, seed, tally, file, length, question, t, ours)?;
         question += 1;
     }
     let asked = At {
@@ -254,28 +256,29 @@ pub fn try_refused_exported(
     let lent_position = first(&position, p.n);
     let limit = limit_of(below(seed, 3));
     let a = call_advice(lent, lent_position, to_32(t), 1, 0, limit);
-    compare_reply(tally, file, length, 6, ours, reply, a);
+    compare_reply(rt, tally, file, length, 6, ours, reply, a)?;
     let b = call_away(lent, lent_position, to_32(t), limit);
-    compare_reply(tally, file, length, 7, ours, reply, b);
+    compare_reply(rt, tally, file, length, 7, ours, reply, b)
 }
 
 // Counts a call, and tells a difference.
 fn compare_reply(
-    tally: &mut [usize; TALLY],
+    rt: &impl Print, tally: &mut [usize; TALLY],
     file: &[u8; ROOM],
     length: usize,
     function: usize,
     said: Answer,
     ours: [u64; REPLY],
     theirs: [u64; REPLY],
-) {
+) -> io::Result<()> {
     count_exported(tally, function, said.says);
     if !same_reply(ours, theirs) {
-        if is_first(tally, file, length, plus(20, function)) {
-            print_reply(ours);
-            print_reply(theirs);
+        if is_first(rt, tally, file, length, plus(20, function))? {
+            print_reply(rt, ours)?;
+            print_reply(rt, theirs)?;
         }
     }
+    Ok(())
 }
 
 fn same_reply(a: [u64; REPLY], b: [u64; REPLY]) -> bool {
@@ -289,12 +292,13 @@ fn same_reply(a: [u64; REPLY], b: [u64; REPLY]) -> bool {
     true
 }
 
-fn print_reply(a: [u64; REPLY]) {
+fn print_reply(rt: &impl Print, a: [u64; REPLY]) -> io::Result<()> {
     let mut i: usize = 0;
     while i < 18 {
-        io::write_all(1, b" ");
-        io::print_decimal(1, a[i]);
+        rt.write_all(b" ")?;
+        let x = a[i];
+        print!(rt; "{x}")?;
         i += 1;
     }
-    io::write_all(1, b"\n");
+    rt.write_all(b"\n")
 }

@@ -3,37 +3,42 @@ use crate::counts::{DIFFERENCES, TALLY, count, count_call, counted};
 use crate::printing::print_number;
 use second::Answer;
 use second_files::ROOM;
+use std::io;
 
 // Counts a call, and tells a difference. Questions: 0 plan, 1 static, 2 decremental, 3 one-shot, 4 dynamic, 5 advice, 6 away, 7 judging, 8 writing.
 pub fn compare(
+    rt: &impl Print,
     tally: &mut [usize; TALLY],
     file: &[u8; ROOM],
     length: usize,
     question: usize,
     ours: Answer,
     theirs: Answer,
-) {
+) -> io::Result<()> {
     count_call(tally, question, ours);
     if !same(ours, theirs) {
-        if is_first(tally, file, length, question) {
-            print_answers(ours, theirs);
+        if is_first(rt, tally, file, length, question)? {
+            print_answers(rt, ours, theirs)?;
         }
     }
+    Ok(())
 }
 
 // What must hold besides the answers: bytes that stay, cases that come back, games that end well, texts and numbers that are the same, and that who
 // wins a harder game wins an easier one. Beside the questions: 9 a file written again, 10 a case read again, 11 to 14 the parts, 15 the text, 16 the
 // chain of games, and from 20 on the exported functions.
 pub fn expect(
+    rt: &impl Print,
     tally: &mut [usize; TALLY],
     file: &[u8; ROOM],
     length: usize,
     question: usize,
     holds: bool,
-) {
+) -> io::Result<()> {
     if !holds {
-        is_first(tally, file, length, question);
+        is_first(rt, tally, file, length, question)?;
     }
+    Ok(())
 }
 
 fn same(a: Answer, b: Answer) -> bool {
@@ -48,30 +53,32 @@ fn same(a: Answer, b: Answer) -> bool {
 
 // Counts a difference. Is it the first? Then the question and the file are printed.
 pub fn is_first(
+    rt: &impl Print,
     tally: &mut [usize; TALLY],
     file: &[u8; ROOM],
     length: usize,
     question: usize,
-) -> bool {
+) -> io::Result<bool> {
     count(tally, DIFFERENCES);
     if counted(tally, DIFFERENCES) != 1 {
-        return false;
+        return Ok(false);
     }
-    io::write_all(1, b"difference at question ");
-    print_number(question);
-    io::write_all(1, b"\nfile ");
-    print_bytes(file, length);
-    true
+    rt.write_all(b"difference at question ")?;
+    print_number(rt, question)?;
+    rt.write_all(b"\nfile ")?;
+    print_bytes(rt, file, length)?;
+    Ok(true)
 }
 
 // The first n bytes, in hexadecimal.
-fn print_bytes(bytes: &[u8], n: usize) {
+fn print_bytes(rt: &impl Print, bytes: &[u8], n: usize) -> io::Result<()> {
     let mut i: usize = 0;
     while i < n {
-        io::print_hex(1, byte_of(bytes, i), 2);
+        let x = byte_of(bytes, i);
+        print!(rt; "{x:02x}")?;
         i += 1;
     }
-    io::write_all(1, b"\n");
+    rt.write_all(b"\n")
 }
 
 fn byte_of(bytes: &[u8], i: usize) -> u64 {
@@ -82,19 +89,19 @@ fn wide(x: u8) -> u64 {
     x as u64
 }
 
-fn print_answers(ours: Answer, theirs: Answer) {
-    io::write_all(1, b"second search");
-    print_answer(ours);
-    io::write_all(1, b"planner");
-    print_answer(theirs);
+fn print_answers(rt: &impl Print, ours: Answer, theirs: Answer) -> io::Result<()> {
+    rt.write_all(b"second search")?;
+    print_answer(rt, ours)?;
+    rt.write_all(b"planner")?;
+    print_answer(rt, theirs)
 }
 
-fn print_answer(a: Answer) {
-    io::write_all(1, b" says ");
-    print_number(a.says);
-    io::write_all(1, b" shows ");
-    print_number(a.shown);
-    io::write_all(1, b" trials ");
-    print_number(a.trials);
-    io::write_all(1, b"\n");
+fn print_answer(rt: &impl Print, a: Answer) -> io::Result<()> {
+    rt.write_all(b" says ")?;
+    print_number(rt, a.says)?;
+    rt.write_all(b" shows ")?;
+    print_number(rt, a.shown)?;
+    rt.write_all(b" trials ")?;
+    print_number(rt, a.trials)?;
+    rt.write_all(b"\n")
 }

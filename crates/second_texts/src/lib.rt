@@ -8,6 +8,7 @@ use second_draws::below;
 use second_files::{ROOM, Turned, down, first, minus, plus, steps, to_8, turned_by};
 use second_lines::{TEXT, put_asked, put_case, put_plan, put_refused, put_verdict};
 use second_tally::{TALLY, TEXTS, count, count_exported, is_first};
+use std::io;
 use telling::{Text, tell};
 
 // What stands in a lent array before a call.
@@ -18,23 +19,24 @@ const INPUT: usize = 1046;
 
 // A good case with its answers: the seven lines, at a limit by chance; and the refusal of a t above 32.
 pub fn try_text(
+    rt: &impl Print,
     seed: &mut [usize; 1],
     tally: &mut [usize; TALLY],
     file: &[u8; ROOM],
     length: usize,
     t: usize,
     five: Five,
-) {
+) -> io::Result<()> {
     let limit = limit_for(seed, five);
     let mut text = [0u8; TEXT];
     let end = put_lines(&mut text, file, t, limit, five);
     count(tally, TEXTS);
     count_exported(tally, 8, 1);
     let n = plus(6, length);
-    try_input(seed, tally, file, length, t, limit, n, &text, end);
+    try_input(rt, seed, tally, file, length, t, limit, n, &text, end)?;
     let high = plus(33, below(seed, 65503));
     let above = turned_by(12, 0);
-    try_refused_text(seed, tally, file, length, high, limit, n, above);
+    try_refused_text(rt, seed, tally, file, length, high, limit, n, above)
 }
 
 // The seven lines.
@@ -98,6 +100,7 @@ fn largest(five: Five) -> usize {
 
 // The first n bytes of an input that is refused: one line.
 pub fn try_refused_text(
+    rt: &impl Print,
     seed: &mut [usize; 1],
     tally: &mut [usize; TALLY],
     file: &[u8; ROOM],
@@ -106,16 +109,17 @@ pub fn try_refused_text(
     limit: usize,
     n: usize,
     turned: Turned,
-) {
+) -> io::Result<()> {
     let mut text = [0u8; TEXT];
     let end = put_refused(&mut text, 0, turned);
     count(tally, plus(TEXTS, 1));
     count_exported(tally, 8, 3);
-    try_input(seed, tally, file, length, t, limit, n, &text, end);
+    try_input(rt, seed, tally, file, length, t, limit, n, &text, end)
 }
 
 // The text for the first n bytes of t, the limit and the file; and the exported function, with a buffer by chance.
 fn try_input(
+    rt: &impl Print,
     seed: &mut [usize; 1],
     tally: &mut [usize; TALLY],
     file: &[u8; ROOM],
@@ -125,14 +129,14 @@ fn try_input(
     n: usize,
     text: &[u8; TEXT],
     end: usize,
-) {
+) -> io::Result<()> {
     let mut input = [0u8; INPUT];
     put_input(&mut input, file, t, limit);
     let same = tells(&input, n, text, end);
-    expect_text(tally, file, length, same, text, end);
+    expect_text(rt, tally, file, length, same, text, end)?;
     let room = room_for(seed, end);
     let filled = fills(&input, n, room, text, end);
-    expect_text(tally, file, length, filled, text, end);
+    expect_text(rt, tally, file, length, filled, text, end)
 }
 
 // Is the program's text for the first n bytes this one, with zero behind it?
@@ -187,18 +191,20 @@ fn is_held(buffer: &[u8; TEXT], text: &[u8; TEXT], end: usize) -> bool {
 
 // Tells a difference, with the text as it must be.
 fn expect_text(
+    rt: &impl Print,
     tally: &mut [usize; TALLY],
     file: &[u8; ROOM],
     length: usize,
     same: bool,
     text: &[u8; TEXT],
     end: usize,
-) {
+) -> io::Result<()> {
     if !same {
-        if is_first(tally, file, length, 15) {
-            io::write_all(1, first(text, end));
+        if is_first(rt, tally, file, length, 15)? {
+            rt.write_all(first(text, end))?;
         }
     }
+    Ok(())
 }
 
 // t in two bytes, the limit in four, and the file.

@@ -10,29 +10,30 @@ use second_files::{
 };
 use second_memory::{case_of, same_case};
 use second_tally::{TALLY, TRIPS, compare, count, expect};
+use std::io;
 
 // What stands in a lent buffer before a write.
 const MARK: u8 = 165;
 
 // The four parts: the file's own stretches where it is good, else empty.
-pub fn try_parts(tally: &mut [usize; TALLY], file: &[u8; ROOM], length: usize, good: bool) {
+pub fn try_parts(rt: &impl Print, tally: &mut [usize; TALLY], file: &[u8; ROOM], length: usize, good: bool) -> io::Result<()> {
     let lent = first(file, length);
     let a = step_at(file, 0);
     let b = row_at(file, 0, 0);
     let c = rule_at(file, 0);
     let p = is_part(files::people_part(lent), file, 24, if_good(good, 24, a));
-    expect(tally, file, length, 11, p);
+    expect(rt, tally, file, length, 11, p)?;
     let q = is_part(files::steps_part(lent), file, a, if_good(good, a, b));
-    expect(tally, file, length, 12, q);
+    expect(rt, tally, file, length, 12, q)?;
     let r = is_part(files::tables_part(lent), file, b, if_good(good, b, c));
-    expect(tally, file, length, 13, r);
+    expect(rt, tally, file, length, 13, r)?;
     let s = is_part(
         files::rules_part(lent),
         file,
         c,
         if_good(good, c, total(file)),
     );
-    expect(tally, file, length, 14, s);
+    expect(rt, tally, file, length, 14, s)
 }
 
 fn if_good(good: bool, from: usize, to: usize) -> usize {
@@ -60,18 +61,18 @@ fn byte_of(part: &[u8], i: usize) -> usize {
 
 // A case that is refused is refused into any buffer, also one that is too short, and leaves every byte.
 pub fn try_refused_write(
-    tally: &mut [usize; TALLY],
+    rt: &impl Print, tally: &mut [usize; TALLY],
     file: &[u8; ROOM],
     length: usize,
     case: Case,
     ours: Answer,
-) {
+) -> io::Result<()> {
     let mut buffer = [MARK; ROOM];
     let theirs = written_told(writing::write(case, &mut buffer));
-    compare(tally, file, length, 8, ours, theirs);
+    compare(rt, tally, file, length, 8, ours, theirs)?;
     let short = written_told(writing::write(case, &mut buffer[0..10]));
-    compare(tally, file, length, 8, ours, short);
-    expect(tally, file, length, 8, marked_from(&buffer, 0));
+    compare(rt, tally, file, length, 8, ours, short)?;
+    expect(rt, tally, file, length, 8, marked_from(&buffer, 0))
 }
 
 // Do all bytes from a place on have the mark?
@@ -99,7 +100,7 @@ fn is_file(buffer: &[u8; ROOM], file: &[u8; ROOM], length: usize) -> bool {
 }
 
 // A good file read and written again: the same bytes, and the rest of the buffer stays.
-pub fn try_from_file(tally: &mut [usize; TALLY], file: &[u8; ROOM], length: usize, held: Case) {
+pub fn try_from_file(rt: &impl Print, tally: &mut [usize; TALLY], file: &[u8; ROOM], length: usize, held: Case) -> io::Result<()> {
     count(tally, TRIPS);
     let mut buffer = [MARK; ROOM];
     let theirs = written_told(writing::write(held, &mut buffer));
@@ -108,18 +109,18 @@ pub fn try_from_file(tally: &mut [usize; TALLY], file: &[u8; ROOM], length: usiz
         shown: length,
         trials: 0,
     };
-    compare(tally, file, length, 8, ours, theirs);
-    expect(tally, file, length, 9, is_file(&buffer, file, length));
-    expect(tally, file, length, 9, marked_from(&buffer, length));
+    compare(rt, tally, file, length, 8, ours, theirs)?;
+    expect(rt, tally, file, length, 9, is_file(&buffer, file, length))?;
+    expect(rt, tally, file, length, 9, marked_from(&buffer, length))
 }
 
 // A case in memory with junk above its counts, written and read again: the same case, with zero above its counts.
 pub fn try_from_memory(
-    seed: &mut [usize; 1],
+    rt: &impl Print, seed: &mut [usize; 1],
     tally: &mut [usize; TALLY],
     file: &[u8; ROOM],
     length: usize,
-) {
+) -> io::Result<()> {
     count(tally, plus(TRIPS, 1));
     let full = case_of(seed, file, 4294967296);
     let plain = case_of(seed, file, 1);
@@ -127,29 +128,30 @@ pub fn try_from_memory(
     writing::write(full, &mut buffer);
     let r = files::read(first(&buffer, length));
     let held = r.held;
-    expect(tally, file, length, 10, same_case(held, plain));
+    expect(rt, tally, file, length, 10, same_case(held, plain))
 }
 
 // A buffer that is too short: 15, and every byte stays.
 pub fn try_short(
-    seed: &mut [usize; 1],
+    rt: &impl Print, seed: &mut [usize; 1],
     tally: &mut [usize; TALLY],
     file: &[u8; ROOM],
     length: usize,
     held: Case,
-) {
+) -> io::Result<()> {
     let mut buffer = [MARK; ROOM];
     let room = below(seed, length);
     if room <= 1040 {
         let theirs = written_told(writing::write(held, &mut buffer[0..room]));
         compare(
-            tally,
+            rt, tally,
             file,
             length,
             8,
             refused_told(turned_by(15, 0)),
             theirs,
-        );
-        expect(tally, file, length, 8, marked_from(&buffer, 0));
+        )?;
+        expect(rt, tally, file, length, 8, marked_from(&buffer, 0))?;
     }
+    Ok(())
 }

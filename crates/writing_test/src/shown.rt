@@ -4,6 +4,7 @@ use files::{judge, read};
 use refusals::Judged;
 use samples::{Made, first};
 use writing::{Written, write};
+use std::io;
 
 // The case that a file holds; the empty case where it is refused.
 pub fn held(file: Made) -> Case {
@@ -17,19 +18,19 @@ fn read_held(file: &[u8]) -> Case {
 }
 
 // A file, read and written again.
-pub fn again(name: &[u8], file: Made, room: usize) {
-    show(name, held(file), file, room);
+pub fn again(rt: &impl Print, name: &[u8], file: Made, room: usize) -> io::Result<()> {
+    show(rt, name, held(file), file, room)
 }
 
 // A case, written into a buffer with this room. `file` is what good ones should come to.
-pub fn show(name: &[u8], case: Case, file: Made, room: usize) {
+pub fn show(rt: &impl Print, name: &[u8], case: Case, file: Made, room: usize) -> io::Result<()> {
     let mut buffer = [238u8; 1100];
     let answer = write_first(case, &mut buffer, room);
     let data = file.data();
-    say(name);
-    say(b": ");
-    say_answer(answer);
-    say_left(answer, &buffer, first(&data, file.len()));
+    say(rt, name)?;
+    say(rt, b": ")?;
+    say_answer(rt, answer)?;
+    say_left(rt, answer, &buffer, first(&data, file.len()))
 }
 
 // Writes into the first `room` bytes.
@@ -40,39 +41,42 @@ fn write_first(case: Case, buffer: &mut [u8], room: usize) -> Written {
     write(case, &mut buffer[0..room])
 }
 
-fn say_answer(answer: Written) {
+fn say_answer(rt: &impl Print, answer: Written) -> io::Result<()> {
     match answer {
         Written::Bytes(n) => {
-            say(b"wrote ");
-            number(n as u64);
+            say(rt, b"wrote ")?;
+            number(rt, n as u64)?;
         }
         Written::Refused(why) => {
-            say(b"refused ");
-            number(why.number as u64);
-            say(b" at ");
-            number(why.place as u64);
+            say(rt, b"refused ")?;
+            number(rt, why.number as u64)?;
+            say(rt, b" at ")?;
+            number(rt, why.place as u64)?;
         }
     }
+    Ok(())
 }
 
 // What the buffer holds: how many bytes of the front are the file's, whether what was written is judged good, and how many of the last bytes are as
 // they were.
-fn say_left(answer: Written, buffer: &[u8], file: &[u8]) {
-    say(b"; like the file ");
-    number(alike(buffer, file) as u64);
-    say(b"; untouched ");
-    number(untouched(buffer) as u64);
+fn say_left(rt: &impl Print, answer: Written, buffer: &[u8], file: &[u8]) -> io::Result<()> {
+    say(rt, b"; like the file ")?;
+    number(rt, alike(buffer, file) as u64)?;
+    say(rt, b"; untouched ")?;
+    number(rt, untouched(buffer) as u64)?;
     match answer {
-        Written::Bytes(n) => say_judged(judge(first(buffer, n as usize))),
-        Written::Refused(_) => say(b"\n"),
+        Written::Bytes(n) => say_judged(rt, judge(first(buffer, n as usize)))?,
+        Written::Refused(_) => say(rt, b"\n")?,
     }
+    Ok(())
 }
 
-fn say_judged(judged: Judged) {
+fn say_judged(rt: &impl Print, judged: Judged) -> io::Result<()> {
     match judged {
-        Judged::Good => say(b"; good\n"),
-        Judged::Refused(_) => say(b"; refused\n"),
+        Judged::Good => say(rt, b"; good\n")?,
+        Judged::Refused(_) => say(rt, b"; refused\n")?,
     }
+    Ok(())
 }
 
 // How many bytes two slices have in common at the front.
@@ -102,10 +106,10 @@ fn untouched(buffer: &[u8]) -> usize {
     buffer.len()
 }
 
-fn number(n: u64) {
-    io::print_decimal(1, n);
+fn number(rt: &impl Print, n: u64) -> io::Result<()> {
+    print!(rt; "{n}")
 }
 
-fn say(text: &[u8]) {
-    io::write_all(1, text);
+fn say(rt: &impl Print, text: &[u8]) -> io::Result<()> {
+    rt.write_all(text)
 }
