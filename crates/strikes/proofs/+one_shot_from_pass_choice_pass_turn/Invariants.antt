@@ -1,0 +1,56 @@
+-- The turns of the one-shot game before the strike call for each other until no step is left: the away side's, and the desk's, which goes along one line where
+use mathlib.Core.Path.{◌≡◌, refl, sym, ap, ◌∙◌}
+use mathlib.Core.Bool.{false}
+use mathlib.Core.Option.{Option, none, some}
+use native.Mathlib.Omega.{arith}
+use borrow.Author.Rules.{rules}
+use Prim.Native.Nat.{ℕ, ◌+◌, ◌-◌, ◌*◌, ◌<◌}
+use Rattle.sets.specs.Sets.{has, size}
+use Rattle.sets.specs.Stored.{width, number}
+use Rattle.games.specs.Walks.{Search, one_shot}
+use Rattle.games.specs.Limit.{cut}
+use Rattle.cases.specs.declared.Filled.{Filled}
+use Rattle.boards.specs.Arena.{put_on, board_arena}
+use Rattle.boards.specs.Looked.{Agree}
+use Rattle.boards.proofs.Looked.{agree_same, agree_left, agree_right}
+use Rattle.lines.specs.declared.Cursor.{Cursor}
+use Rattle.lines.specs.declared.Lines.{Lines}
+use Rattle.lines.specs.Moves as moves
+use Rattle.lines.specs.Moves.{line_at}
+use Rattle.lines.proofs.Scans as many
+use Rattle.tries.specs.Outcomes.{verdict_outcome, turn_outcome, pass_on}
+use Rattle.tries.specs.Trying.{step_on, try_outcome}
+use Rattle.tries.specs.Alike.{spent_outcome}
+use Rattle.games.proofs.Cuts.{finished, ends, first-limit, first-got, first-none}
+use Rattle.tries.proofs.Scans.{Hunt, Going, Trying, try-limit, try-nobody, try-person, sub-limit, sub_within, sub-done, sub-on}
+use Rattle.tries.proofs.Turns.{above_zero, some_left, nobody-shown, pass_hunt, pass-going, one_shot-full, one_shot-turn}
+use Rattle.tries.proofs.Alike.{Alike, going-as, alike-by, alike-limit, alike_all}
+use Rattle.tries.proofs.Agreeing.{is-alone, alone-agree, not-asked, placed-agree, placed_alike}
+use Rattle.tries.proofs.Choosing as choosing
+use Rattle.strikes.proofs.+one_shot_from_pass_choice_pass_turn.Given as goal
+
+
+abbrev pub decreases-one_shot_from : goal.decreases-one_shot_from
+decreases-one_shot_from l = 3 * l.left + 2
+
+abbrev pub decreases-pass_choice : goal.decreases-pass_choice
+decreases-pass_choice l = 3 * l.left
+
+abbrev pub decreases-pass_turn : goal.decreases-pass_turn
+decreases-pass_turn l = 3 * l.left + 1
+
+abbrev pub invariant-pass_choice-loop-trials : goal.invariant-pass_choice-loop-trials
+invariant-pass_choice-loop-trials l =
+    (q : Filled) → Agree l.looked l.p q
+    → many.Going (choosing.pass_hunt l.board l.people q l.lines l.t (l.left - 1)) l.lines (pass_on l.board l.people l.t (l.left - 1) q) l.limit l.at l.used tt
+
+abbrev pub decreases-pass_choice-loop-trials : goal.decreases-pass_choice-loop-trials
+decreases-pass_choice-loop-trials l = many.togo l.at
+
+abbrev pub invariant-pass_turn-loop-trials : goal.invariant-pass_turn-loop-trials
+invariant-pass_turn-loop-trials l =
+    (q : Filled) → Agree l.looked l.p q
+    → Going (pass_hunt l.board l.people l.t (l.left - 1) q) (pass_on l.board l.people l.t (l.left - 1) q) l.limit (number l.line.tried) (number l.line.fit) l.used tt
+
+abbrev pub decreases-pass_turn-loop-trials : goal.decreases-pass_turn-loop-trials
+decreases-pass_turn-loop-trials l = size width (number l.line.fit)
