@@ -13,8 +13,8 @@ mod shown;
 ghost use Rattle.std.specs.Prelude.{◌≤◌, length};
 
 use making::Making;
-use shown::{show, show_parts};
 use reading::read_full;
+use shown::{show, show_parts};
 use std::io;
 
 fn main(rt: HostRuntime) -> io::Result<()> {

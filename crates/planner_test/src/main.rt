@@ -28,9 +28,9 @@ use planner::{
 };
 use planner_lines::{Line, Part, filled, find, read_line, starts, with_counts};
 use playing::{dodge, follow};
+use reading::read_full;
 use saying::{say, say_advice, say_away, say_plan, say_verdict};
 use sets::People;
-use reading::read_full;
 use std::io;
 
 fn main(rt: HostRuntime) -> io::Result<()> {

@@ -28,7 +28,14 @@ pub fn follow(rt: &impl Print, case: Case, t: u32, limit: u32, line: Line) -> io
     Ok(())
 }
 
-fn advice_said(rt: &impl Print, case: Case, p: Position, t: u32, absent: People, limit: u32) -> io::Result<AdviceAnswer> {
+fn advice_said(
+    rt: &impl Print,
+    case: Case,
+    p: Position,
+    t: u32,
+    absent: People,
+    limit: u32,
+) -> io::Result<AdviceAnswer> {
     let answer = advice(case, p, t, absent, limit);
     say_advice(rt, answer)?;
     Ok(answer)

@@ -23,7 +23,8 @@ use std::io;
 
 // A good file, and the questions about its case.
 pub fn try_case(
-    rt: &impl Print, seed: &mut [usize; 1],
+    rt: &impl Print,
+    seed: &mut [usize; 1],
     slate: &mut [usize; SLATE],
     tally: &mut [usize; TALLY],
     file: &[u8; ROOM],
@@ -34,7 +35,15 @@ pub fn try_case(
     let lent = first(file, length);
     let ours = judged(file, length);
     expect(rt, tally, file, length, 7, ours.number == 0)?;
-    compare(rt, tally, file, length, 7, refused_told(ours), ask_judge(lent))?;
+    compare(
+        rt,
+        tally,
+        file,
+        length,
+        7,
+        refused_told(ours),
+        ask_judge(lent),
+    )?;
     let r = files::read(lent);
     let held = r.held;
     try_parts(rt, tally, file, length, true)?;
@@ -52,7 +61,8 @@ pub fn try_case(
 
 // t above 32 is 12, but not for the plan.
 fn try_t_above(
-    rt: &impl Print, seed: &mut [usize; 1],
+    rt: &impl Print,
+    seed: &mut [usize; 1],
     tally: &mut [usize; TALLY],
     file: &[u8; ROOM],
     length: usize,
@@ -62,7 +72,8 @@ fn try_t_above(
     let question = plus(1, below(seed, 4));
     let ours = refused_told(turned_by(12, 0));
     compare(
-        rt, tally,
+        rt,
+        tally,
         file,
         length,
         question,
@@ -72,7 +83,8 @@ fn try_t_above(
 }
 
 fn try_questions(
-    rt: &impl Print, seed: &mut [usize; 1],
+    rt: &impl Print,
+    seed: &mut [usize; 1],
     slate: &mut [usize; SLATE],
     tally: &mut [usize; TALLY],
     file: &[u8; ROOM],
@@ -99,7 +111,8 @@ fn try_questions(
 
 // The dynamic question, asked of a case with junk above its counts, and its play.
 fn try_changing(
-    rt: &impl Print, seed: &mut [usize; 1],
+    rt: &impl Print,
+    seed: &mut [usize; 1],
     slate: &mut [usize; SLATE],
     tally: &mut [usize; TALLY],
     file: &[u8; ROOM],
@@ -116,7 +129,8 @@ fn try_changing(
 
 // The decremental question; and then, with all five answers, the chain of games, the text and the exported functions.
 fn try_all(
-    rt: &impl Print, seed: &mut [usize; 1],
+    rt: &impl Print,
+    seed: &mut [usize; 1],
     slate: &mut [usize; SLATE],
     tally: &mut [usize; TALLY],
     file: &[u8; ROOM],
@@ -164,7 +178,8 @@ fn is_chain(five: Five) -> bool {
 
 // At the largest limit, at the exact count and one below; or at a small limit only, where the walk is long.
 fn ask_at_limits(
-    rt: &impl Print, tally: &mut [usize; TALLY],
+    rt: &impl Print,
+    tally: &mut [usize; TALLY],
     file: &[u8; ROOM],
     length: usize,
     question: usize,
@@ -174,13 +189,34 @@ fn ask_at_limits(
 ) -> io::Result<()> {
     count_answer(tally, question, ours);
     if MOST_TRIALS < ours.trials {
-        ask_at(rt, tally, file, length, question, case, t, ours, MOST_TRIALS)?;
+        ask_at(
+            rt,
+            tally,
+            file,
+            length,
+            question,
+            case,
+            t,
+            ours,
+            MOST_TRIALS,
+        )?;
     } else {
         ask_at(rt, tally, file, length, question, case, t, ours, 4294967295)?;
-        ask_at(rt, tally, file, length, question, case, t, ours, ours.trials)?;
+        ask_at(
+            rt,
+            tally,
+            file,
+            length,
+            question,
+            case,
+            t,
+            ours,
+            ours.trials,
+        )?;
         if 0 < ours.trials {
             ask_at(
-                rt, tally,
+                rt,
+                tally,
                 file,
                 length,
                 question,
@@ -195,7 +231,8 @@ fn ask_at_limits(
 }
 
 fn ask_at(
-    rt: &impl Print, tally: &mut [usize; TALLY],
+    rt: &impl Print,
+    tally: &mut [usize; TALLY],
     file: &[u8; ROOM],
     length: usize,
     question: usize,
@@ -205,12 +242,21 @@ fn ask_at(
     limit: usize,
 ) -> io::Result<()> {
     let theirs = ask_verdict(question, case, to_32(t), limit_of(limit));
-    compare(rt, tally, file, length, question, within(limit, ours), theirs)
+    compare(
+        rt,
+        tally,
+        file,
+        length,
+        question,
+        within(limit, ours),
+        theirs,
+    )
 }
 
 // Advice and away at positions by chance, and whole games.
 fn try_play(
-    rt: &impl Print, seed: &mut [usize; 1],
+    rt: &impl Print,
+    seed: &mut [usize; 1],
     slate: &[usize; SLATE],
     tally: &mut [usize; TALLY],
     file: &[u8; ROOM],
@@ -238,7 +284,8 @@ fn try_play(
 
 // The desk wins more seldom: where the away side has played more games, it plays up to three, under other absences.
 fn play_desk_often(
-    rt: &impl Print, seed: &mut [usize; 1],
+    rt: &impl Print,
+    seed: &mut [usize; 1],
     slate: &[usize; SLATE],
     tally: &mut [usize; TALLY],
     file: &[u8; ROOM],

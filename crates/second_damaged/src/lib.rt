@@ -17,7 +17,13 @@ use second_trips::{try_parts, try_refused_write};
 use std::io;
 
 // A small file with one fault, or with two where the second number is not 0.
-pub fn try_damaged(rt: &impl Print, seed: &mut [usize; 1], tally: &mut [usize; TALLY], fault: usize, other: usize) -> io::Result<()> {
+pub fn try_damaged(
+    rt: &impl Print,
+    seed: &mut [usize; 1],
+    tally: &mut [usize; TALLY],
+    fault: usize,
+    other: usize,
+) -> io::Result<()> {
     let mut file = [0u8; ROOM];
     let shape = tiny(seed);
     let good = draw(seed, &mut file, shape);
@@ -31,14 +37,29 @@ pub fn try_damaged(rt: &impl Print, seed: &mut [usize; 1], tally: &mut [usize; T
     try_file(rt, seed, tally, &file, length)
 }
 
-fn try_file(rt: &impl Print, seed: &mut [usize; 1], tally: &mut [usize; TALLY], file: &[u8; ROOM], length: usize) -> io::Result<()> {
+fn try_file(
+    rt: &impl Print,
+    seed: &mut [usize; 1],
+    tally: &mut [usize; TALLY],
+    file: &[u8; ROOM],
+    length: usize,
+) -> io::Result<()> {
     let ours = judged(file, length);
     let lent = first(file, length);
-    compare(rt, tally, file, length, 7, refused_told(ours), ask_judge(lent))?;
+    compare(
+        rt,
+        tally,
+        file,
+        length,
+        7,
+        refused_told(ours),
+        ask_judge(lent),
+    )?;
     let r = files::read(lent);
     let theirs = r.judged;
     compare(
-        rt, tally,
+        rt,
+        tally,
         file,
         length,
         7,
@@ -64,7 +85,8 @@ fn try_file(rt: &impl Print, seed: &mut [usize; 1], tally: &mut [usize; TALLY], 
 
 // The text of the file, whatever t is; and now and then of fewer bytes than stand before a file.
 fn try_texts(
-    rt: &impl Print, seed: &mut [usize; 1],
+    rt: &impl Print,
+    seed: &mut [usize; 1],
     tally: &mut [usize; TALLY],
     file: &[u8; ROOM],
     length: usize,
@@ -91,7 +113,8 @@ fn in_memory(t: Turned) -> bool {
 
 // Every call refuses the case, whatever else it is given.
 fn try_refused_case(
-    rt: &impl Print, seed: &mut [usize; 1],
+    rt: &impl Print,
+    seed: &mut [usize; 1],
     tally: &mut [usize; TALLY],
     file: &[u8; ROOM],
     length: usize,
@@ -103,7 +126,8 @@ fn try_refused_case(
     let mut question: usize = 0;
     while question < 5 {
         compare(
-            rt, tally,
+            rt,
+            tally,
             file,
             length,
             question,
@@ -114,7 +138,8 @@ fn try_refused_case(
     }
     let position = position_of(below(seed, 65536), below(seed, 10));
     compare(
-        rt, tally,
+        rt,
+        tally,
         file,
         length,
         5,
@@ -122,7 +147,8 @@ fn try_refused_case(
         ask_advice(case, position, t, below(seed, 64), limit),
     )?;
     compare(
-        rt, tally,
+        rt,
+        tally,
         file,
         length,
         6,

@@ -16,7 +16,8 @@ use std::io;
 
 // A good file, whose answers are known: every function, at a limit by chance.
 pub fn try_exported(
-    rt: &impl Print, seed: &mut [usize; 1],
+    rt: &impl Print,
+    seed: &mut [usize; 1],
     slate: &[usize; SLATE],
     tally: &mut [usize; TALLY],
     file: &[u8; ROOM],
@@ -37,7 +38,8 @@ pub fn try_exported(
 }
 
 fn try_questions(
-    rt: &impl Print, seed: &mut [usize; 1],
+    rt: &impl Print,
+    seed: &mut [usize; 1],
     tally: &mut [usize; TALLY],
     file: &[u8; ROOM],
     length: usize,
@@ -58,7 +60,8 @@ fn try_questions(
 
 // t above 32 is 12, but not for the plan.
 fn try_t_above(
-    rt: &impl Print, seed: &mut [usize; 1],
+    rt: &impl Print,
+    seed: &mut [usize; 1],
     tally: &mut [usize; TALLY],
     file: &[u8; ROOM],
     length: usize,
@@ -71,7 +74,8 @@ fn try_t_above(
 
 // One of the five questions, 0 plan, 1 static, 2 decremental, 3 one-shot, 4 dynamic, at a limit by chance.
 fn try_question(
-    rt: &impl Print, seed: &mut [usize; 1],
+    rt: &impl Print,
+    seed: &mut [usize; 1],
     tally: &mut [usize; TALLY],
     file: &[u8; ROOM],
     length: usize,
@@ -88,12 +92,22 @@ fn try_question(
     } else {
         verdict_reply(said)
     };
-    compare_reply(rt, tally, file, length, plus(question, 1), said, reply, theirs)
+    compare_reply(
+        rt,
+        tally,
+        file,
+        length,
+        plus(question, 1),
+        said,
+        reply,
+        theirs,
+    )
 }
 
 // Advice and away at positions by chance; the last time with t above 32.
 fn try_positions(
-    rt: &impl Print, seed: &mut [usize; 1],
+    rt: &impl Print,
+    seed: &mut [usize; 1],
     slate: &[usize; SLATE],
     tally: &mut [usize; TALLY],
     file: &[u8; ROOM],
@@ -136,7 +150,8 @@ fn draw_two_words(seed: &mut [usize; 1], n: usize, t: usize) -> Absent {
 }
 
 fn try_advice(
-    rt: &impl Print, seed: &mut [usize; 1],
+    rt: &impl Print,
+    seed: &mut [usize; 1],
     slate: &[usize; SLATE],
     tally: &mut [usize; TALLY],
     file: &[u8; ROOM],
@@ -199,7 +214,8 @@ fn node_at(slate: &[usize; SLATE], p: Pairs) -> usize {
 }
 
 fn try_away(
-    rt: &impl Print, seed: &mut [usize; 1],
+    rt: &impl Print,
+    seed: &mut [usize; 1],
     slate: &[usize; SLATE],
     tally: &mut [usize; TALLY],
     file: &[u8; ROOM],
@@ -230,7 +246,8 @@ fn our_away(slate: &[usize; SLATE], file: &[u8; ROOM], p: Pairs, t: usize) -> An
 
 // A refused file: every function says so, whatever else it is given.
 pub fn try_refused_exported(
-    rt: &impl Print, seed: &mut [usize; 1],
+    rt: &impl Print,
+    seed: &mut [usize; 1],
     tally: &mut [usize; TALLY],
     file: &[u8; ROOM],
     length: usize,
@@ -263,7 +280,8 @@ pub fn try_refused_exported(
 
 // Counts a call, and tells a difference.
 fn compare_reply(
-    rt: &impl Print, tally: &mut [usize; TALLY],
+    rt: &impl Print,
+    tally: &mut [usize; TALLY],
     file: &[u8; ROOM],
     length: usize,
     function: usize,

@@ -11,7 +11,8 @@ use second_tally::{TALLY, compare};
 use std::io;
 
 pub fn try_advice(
-    rt: &impl Print, seed: &mut [usize; 1],
+    rt: &impl Print,
+    seed: &mut [usize; 1],
     slate: &[usize; SLATE],
     tally: &mut [usize; TALLY],
     file: &[u8; ROOM],
@@ -54,7 +55,8 @@ fn our_advice(
 }
 
 pub fn try_away(
-    rt: &impl Print, seed: &mut [usize; 1],
+    rt: &impl Print,
+    seed: &mut [usize; 1],
     slate: &[usize; SLATE],
     tally: &mut [usize; TALLY],
     file: &[u8; ROOM],

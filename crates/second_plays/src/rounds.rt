@@ -12,7 +12,8 @@ use std::io;
 
 // A game that the desk wins, played by advice: it ends in a plan.
 pub fn play_desk(
-    rt: &impl Print, seed: &mut [usize; 1],
+    rt: &impl Print,
+    seed: &mut [usize; 1],
     slate: &[usize; SLATE],
     tally: &mut [usize; TALLY],
     file: &[u8; ROOM],
@@ -41,7 +42,8 @@ fn is_plan(slate: &[usize; SLATE], at: At) -> bool {
 
 // One round: people by chance are absent, or those whom advice would name first.
 fn desk_round(
-    rt: &impl Print, seed: &mut [usize; 1],
+    rt: &impl Print,
+    seed: &mut [usize; 1],
     slate: &[usize; SLATE],
     tally: &mut [usize; TALLY],
     file: &[u8; ROOM],
@@ -58,7 +60,8 @@ fn desk_round(
     let position = position_of(at.who, at.length);
     let theirs = ask_advice(case, position, to_32(t), absent, 4294967295);
     compare(
-        rt, tally,
+        rt,
+        tally,
         file,
         length,
         5,
@@ -71,7 +74,8 @@ fn desk_round(
 
 // A game that the away side wins, played by away against persons by chance: it ends where nobody present can be placed.
 pub fn play_away(
-    rt: &impl Print, seed: &mut [usize; 1],
+    rt: &impl Print,
+    seed: &mut [usize; 1],
     slate: &[usize; SLATE],
     tally: &mut [usize; TALLY],
     file: &[u8; ROOM],
@@ -97,7 +101,8 @@ pub fn play_away(
 
 // Whom the planner keeps away, at most t people.
 fn named_away(
-    rt: &impl Print, slate: &[usize; SLATE],
+    rt: &impl Print,
+    slate: &[usize; SLATE],
     tally: &mut [usize; TALLY],
     file: &[u8; ROOM],
     length: usize,

@@ -26,7 +26,11 @@ fn main(rt: HostRuntime) -> io::Result<()> {
 }
 
 // Every fault alone and every two faults together, many times.
-fn try_damaged_files(rt: &impl Print, seed: &mut [usize; 1], tally: &mut [usize; TALLY]) -> io::Result<()> {
+fn try_damaged_files(
+    rt: &impl Print,
+    seed: &mut [usize; 1],
+    tally: &mut [usize; TALLY],
+) -> io::Result<()> {
     let mut i: usize = 0;
     while i < 7260 {
         try_damaged(rt, seed, tally, plus(1, i % 11), i / 11 % 12)?;
@@ -35,7 +39,12 @@ fn try_damaged_files(rt: &impl Print, seed: &mut [usize; 1], tally: &mut [usize;
     Ok(())
 }
 
-fn try_small_cases(rt: &impl Print, seed: &mut [usize; 1], slate: &mut [usize; SLATE], tally: &mut [usize; TALLY]) -> io::Result<()> {
+fn try_small_cases(
+    rt: &impl Print,
+    seed: &mut [usize; 1],
+    slate: &mut [usize; SLATE],
+    tally: &mut [usize; TALLY],
+) -> io::Result<()> {
     let mut i: usize = 0;
     while i < 3600 {
         let d = small(seed);
@@ -45,7 +54,12 @@ fn try_small_cases(rt: &impl Print, seed: &mut [usize; 1], slate: &mut [usize; S
     Ok(())
 }
 
-fn try_middle_cases(rt: &impl Print, seed: &mut [usize; 1], slate: &mut [usize; SLATE], tally: &mut [usize; TALLY]) -> io::Result<()> {
+fn try_middle_cases(
+    rt: &impl Print,
+    seed: &mut [usize; 1],
+    slate: &mut [usize; SLATE],
+    tally: &mut [usize; TALLY],
+) -> io::Result<()> {
     let mut i: usize = 0;
     while i < 600 {
         let d = middle(seed, i);
@@ -55,7 +69,12 @@ fn try_middle_cases(rt: &impl Print, seed: &mut [usize; 1], slate: &mut [usize; 
     Ok(())
 }
 
-fn try_large_cases(rt: &impl Print, seed: &mut [usize; 1], slate: &mut [usize; SLATE], tally: &mut [usize; TALLY]) -> io::Result<()> {
+fn try_large_cases(
+    rt: &impl Print,
+    seed: &mut [usize; 1],
+    slate: &mut [usize; SLATE],
+    tally: &mut [usize; TALLY],
+) -> io::Result<()> {
     let mut i: usize = 0;
     while i < 480 {
         let d = large(seed, i);
@@ -66,7 +85,8 @@ fn try_large_cases(rt: &impl Print, seed: &mut [usize; 1], slate: &mut [usize; S
 }
 
 fn try_drawn(
-    rt: &impl Print, seed: &mut [usize; 1],
+    rt: &impl Print,
+    seed: &mut [usize; 1],
     slate: &mut [usize; SLATE],
     tally: &mut [usize; TALLY],
     d: Drawn,

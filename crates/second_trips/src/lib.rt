@@ -16,7 +16,13 @@ use std::io;
 const MARK: u8 = 165;
 
 // The four parts: the file's own stretches where it is good, else empty.
-pub fn try_parts(rt: &impl Print, tally: &mut [usize; TALLY], file: &[u8; ROOM], length: usize, good: bool) -> io::Result<()> {
+pub fn try_parts(
+    rt: &impl Print,
+    tally: &mut [usize; TALLY],
+    file: &[u8; ROOM],
+    length: usize,
+    good: bool,
+) -> io::Result<()> {
     let lent = first(file, length);
     let a = step_at(file, 0);
     let b = row_at(file, 0, 0);
@@ -61,7 +67,8 @@ fn byte_of(part: &[u8], i: usize) -> usize {
 
 // A case that is refused is refused into any buffer, also one that is too short, and leaves every byte.
 pub fn try_refused_write(
-    rt: &impl Print, tally: &mut [usize; TALLY],
+    rt: &impl Print,
+    tally: &mut [usize; TALLY],
     file: &[u8; ROOM],
     length: usize,
     case: Case,
@@ -100,7 +107,13 @@ fn is_file(buffer: &[u8; ROOM], file: &[u8; ROOM], length: usize) -> bool {
 }
 
 // A good file read and written again: the same bytes, and the rest of the buffer stays.
-pub fn try_from_file(rt: &impl Print, tally: &mut [usize; TALLY], file: &[u8; ROOM], length: usize, held: Case) -> io::Result<()> {
+pub fn try_from_file(
+    rt: &impl Print,
+    tally: &mut [usize; TALLY],
+    file: &[u8; ROOM],
+    length: usize,
+    held: Case,
+) -> io::Result<()> {
     count(tally, TRIPS);
     let mut buffer = [MARK; ROOM];
     let theirs = written_told(writing::write(held, &mut buffer));
@@ -116,7 +129,8 @@ pub fn try_from_file(rt: &impl Print, tally: &mut [usize; TALLY], file: &[u8; RO
 
 // A case in memory with junk above its counts, written and read again: the same case, with zero above its counts.
 pub fn try_from_memory(
-    rt: &impl Print, seed: &mut [usize; 1],
+    rt: &impl Print,
+    seed: &mut [usize; 1],
     tally: &mut [usize; TALLY],
     file: &[u8; ROOM],
     length: usize,
@@ -133,7 +147,8 @@ pub fn try_from_memory(
 
 // A buffer that is too short: 15, and every byte stays.
 pub fn try_short(
-    rt: &impl Print, seed: &mut [usize; 1],
+    rt: &impl Print,
+    seed: &mut [usize; 1],
     tally: &mut [usize; TALLY],
     file: &[u8; ROOM],
     length: usize,
@@ -144,7 +159,8 @@ pub fn try_short(
     if room <= 1040 {
         let theirs = written_told(writing::write(held, &mut buffer[0..room]));
         compare(
-            rt, tally,
+            rt,
+            tally,
             file,
             length,
             8,

@@ -3,16 +3,16 @@
 #![tactic(auto)]
 
 use samples::{Made, campfire, first, largest, nobody, related};
+use std::io;
 use telling::tell;
 use words::{put_long, put_word};
-use std::io;
 
 fn main(rt: HostRuntime) -> io::Result<()> {
-    finished(&rt, )?;
-    stopped(&rt, )?;
-    refused(&rt, )?;
-    edges(&rt, )?;
-    lengths(&rt, )
+    finished(&rt)?;
+    stopped(&rt)?;
+    refused(&rt)?;
+    edges(&rt)?;
+    lengths(&rt)
 }
 
 fn finished(rt: &impl Print) -> io::Result<()> {
@@ -70,7 +70,8 @@ fn edges(rt: &impl Print) -> io::Result<()> {
     show(rt, b"no people, one step, limit 0", alone(), 3, 0)?;
     show(rt, b"32 people", largest(), 0, 1000)?;
     show(
-        rt, b"eight steps",
+        rt,
+        b"eight steps",
         largest().each(24, 16, 1).each(88, 8, 1),
         0,
         1000,
@@ -113,9 +114,15 @@ fn lengths(rt: &impl Print) -> io::Result<()> {
     show_first(rt, b"47 bytes", fire, 47)?;
     show_first(rt, b"49 bytes", fire, 49)?;
     show_first(rt, b"longer than any case", fire, 1100)?;
-    show_first(rt, b"longer than any case, edition 2", fire.word(0, 2), 1100)?;
+    show_first(
+        rt,
+        b"longer than any case, edition 2",
+        fire.word(0, 2),
+        1100,
+    )?;
     show(
-        rt, b"a byte after the longest case",
+        rt,
+        b"a byte after the longest case",
         largest().long(1017),
         0,
         1000,
@@ -136,7 +143,14 @@ fn show_first(rt: &impl Print, name: &[u8], file: Made, len: usize) -> io::Resul
     show_input(rt, name, file, 1, 1000, len)
 }
 
-fn show_input(rt: &impl Print, name: &[u8], file: Made, t: u16, limit: u32, len: usize) -> io::Result<()> {
+fn show_input(
+    rt: &impl Print,
+    name: &[u8],
+    file: Made,
+    t: u16,
+    limit: u32,
+    len: usize,
+) -> io::Result<()> {
     let data = file.data();
     let mut input = [0u8; 1106];
     fill(&mut input, &data, t, limit);

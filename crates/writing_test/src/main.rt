@@ -11,11 +11,11 @@ use shown::{again, held, show};
 use std::io;
 
 fn main(rt: HostRuntime) -> io::Result<()> {
-    rooms(&rt, )?;
-    others(&rt, )?;
-    rubbish(&rt, )?;
-    refused(&rt, )?;
-    two_at_once(&rt, )
+    rooms(&rt)?;
+    others(&rt)?;
+    rubbish(&rt)?;
+    refused(&rt)?;
+    two_at_once(&rt)
 }
 
 // The campfire into buffers of several lengths.
@@ -32,41 +32,58 @@ fn others(rt: &impl Print) -> io::Result<()> {
     again(rt, b"with a table into 54 bytes", related(), 54)?;
     again(rt, b"with a table into 53 bytes", related(), 53)?;
     again(
-        rt, b"all counts at their limits into 1016 bytes",
+        rt,
+        b"all counts at their limits into 1016 bytes",
         largest(),
         1016,
     )?;
     again(
-        rt, b"all counts at their limits into 1015 bytes",
+        rt,
+        b"all counts at their limits into 1015 bytes",
         largest(),
         1015,
     )?;
     again(
-        rt, b"a refused file, and so the empty case, into 24 bytes",
+        rt,
+        b"a refused file, and so the empty case, into 24 bytes",
         campfire().byte(0, 2),
         24,
     )?;
-    again(rt, b"the empty case into 23 bytes", campfire().byte(0, 2), 23)
+    again(
+        rt,
+        b"the empty case into 23 bytes",
+        campfire().byte(0, 2),
+        23,
+    )
 }
 
 // What stands above a count is not written, and no case is bad for it.
 fn rubbish(rt: &impl Print) -> io::Result<()> {
     let case = held(campfire());
     show(
-        rt, b"a fourth person with all roles",
+        rt,
+        b"a fourth person with all roles",
         with_person(case, 3, 65535),
         campfire(),
         50,
     )?;
     show(
-        rt, b"a third step with a spare byte",
+        rt,
+        b"a third step with a spare byte",
         with_spare(case, 2),
         campfire(),
         50,
     )?;
-    show(rt, b"a row without a table", with_row(case, 0), campfire(), 50)?;
     show(
-        rt, b"a second rule of form 9",
+        rt,
+        b"a row without a table",
+        with_row(case, 0),
+        campfire(),
+        50,
+    )?;
+    show(
+        rt,
+        b"a second rule of form 9",
         with_form(case, 1, 9),
         campfire(),
         50,
@@ -78,32 +95,37 @@ fn refused(rt: &impl Print) -> io::Result<()> {
     let case = held(campfire());
     show(rt, b"33 people", with_people(case, 33), campfire(), 50)?;
     show(
-        rt, b"person 2 holds role 2",
+        rt,
+        b"person 2 holds role 2",
         with_person(case, 2, 4),
         campfire(),
         50,
     )?;
     show(
-        rt, b"step 1 names role 2",
+        rt,
+        b"step 1 names role 2",
         with_step(case, 1, 4),
         campfire(),
         50,
     )?;
     show(
-        rt, b"step 1 has a spare byte",
+        rt,
+        b"step 1 has a spare byte",
         with_spare(case, 1),
         campfire(),
         50,
     )?;
     show(
-        rt, b"a row names person 31",
+        rt,
+        b"a row names person 31",
         with_row(held(related()), 1),
         related(),
         60,
     )?;
     show(rt, b"form 4", with_form(case, 0, 4), campfire(), 50)?;
     show(
-        rt, b"relation 2 without a table",
+        rt,
+        b"relation 2 without a table",
         with_rule(case, 2),
         campfire(),
         50,
@@ -117,7 +139,8 @@ fn two_at_once(rt: &impl Print) -> io::Result<()> {
     show(rt, b"7 and 15", with_person(case, 0, 4), campfire(), 41)?;
     show(rt, b"11 and 15", with_form(case, 0, 0), campfire(), 41)?;
     show(
-        rt, b"7 and 11",
+        rt,
+        b"7 and 11",
         with_form(with_person(case, 1, 4), 0, 0),
         campfire(),
         50,

@@ -3,8 +3,8 @@ use cases::Case;
 use files::{judge, read};
 use refusals::Judged;
 use samples::{Made, first};
-use writing::{Written, write};
 use std::io;
+use writing::{Written, write};
 
 // The case that a file holds; the empty case where it is refused.
 pub fn held(file: Made) -> Case {
