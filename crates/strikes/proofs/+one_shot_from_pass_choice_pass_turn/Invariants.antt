@@ -1,34 +1,15 @@
 -- The turns of the one-shot game before the strike call for each other until no step is left: the away side's, and the desk's, which goes along one line where
-use mathlib.Core.Path.{◌≡◌, refl, sym, ap, ◌∙◌}
-use mathlib.Core.Bool.{false}
-use mathlib.Core.Option.{Option, none, some}
-use native.Mathlib.Omega.{arith}
-use borrow.Author.Rules.{rules}
-use Prim.Native.Nat.{ℕ, ◌+◌, ◌-◌, ◌*◌, ◌<◌}
-use Rattle.sets.specs.Sets.{has, size}
+use Prim.Native.Nat.{◌+◌, ◌-◌, ◌*◌}
+use Rattle.sets.specs.Sets.{size}
 use Rattle.sets.specs.Stored.{width, number}
-use Rattle.games.specs.Walks.{Search, one_shot}
-use Rattle.games.specs.Limit.{cut}
 use Rattle.cases.specs.declared.Filled.{Filled}
-use Rattle.boards.specs.Arena.{put_on, board_arena}
 use Rattle.boards.specs.Looked.{Agree}
-use Rattle.boards.proofs.Looked.{agree_same, agree_left, agree_right}
-use Rattle.lines.specs.declared.Cursor.{Cursor}
-use Rattle.lines.specs.declared.Lines.{Lines}
-use Rattle.lines.specs.Moves as moves
-use Rattle.lines.specs.Moves.{line_at}
 use Rattle.lines.proofs.Scans as many
-use Rattle.tries.specs.Outcomes.{verdict_outcome, turn_outcome, pass_on}
-use Rattle.tries.specs.Trying.{step_on, try_outcome}
-use Rattle.tries.specs.Alike.{spent_outcome}
-use Rattle.games.proofs.Cuts.{finished, ends, first-limit, first-got, first-none}
-use Rattle.tries.proofs.Scans.{Hunt, Going, Trying, try-limit, try-nobody, try-person, sub-limit, sub_within, sub-done, sub-on}
-use Rattle.tries.proofs.Turns.{above_zero, some_left, nobody-shown, pass_hunt, pass-going, one_shot-full, one_shot-turn}
-use Rattle.tries.proofs.Alike.{Alike, going-as, alike-by, alike-limit, alike_all}
-use Rattle.tries.proofs.Agreeing.{is-alone, alone-agree, not-asked, placed-agree, placed_alike}
+use Rattle.tries.specs.Outcomes.{pass_on}
+use Rattle.tries.proofs.Scans.{Going}
+use Rattle.tries.proofs.Turns.{pass_hunt}
 use Rattle.tries.proofs.Choosing as choosing
 use Rattle.strikes.proofs.+one_shot_from_pass_choice_pass_turn.Given as goal
-
 
 abbrev pub decreases-one_shot_from : goal.decreases-one_shot_from
 decreases-one_shot_from l = 3 * l.left + 2

@@ -1,7 +1,6 @@
 -- The strikes: the static walk under the limit that the pass has left, told as one under the whole limit.
 use mathlib.Core.Path.{sym, ap, ◌∙◌}
 use native.Mathlib.Omega.{arith}
-use borrow.Author.Rules.{rules}
 use Rattle.boards.proofs.Looked.{agree_same}
 use Rattle.tries.specs.Outcomes.{verdict_outcome}
 use Rattle.games.proofs.Cuts.{after-limit, after-within, after-ended}
