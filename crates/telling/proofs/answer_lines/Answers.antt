@@ -1,5 +1,4 @@
 use native.Mathlib.Omega.{arith}
-use borrow.Author.Rules.{rules}
 use Rattle.planner.specs.declared.Question.TheVariants as question
 use Rattle.telling.proofs.Writing.{lines-put}
 use Rattle.telling.proofs.Laid.{case-ready, planned-as, asked-as}

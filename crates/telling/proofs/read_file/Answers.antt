@@ -4,7 +4,6 @@ use lib.ListN.{length, drop, drop_of_length-le, length-drop}
 use lib.Seq.{take_all}
 use mathlib.Core.Path.{sym, ap, ◌∙◌}
 use Rattle.files.specs.Reading.{read_of}
-use borrow.Author.Rules.{rules}
 use Rattle.telling.proofs.read_file.Goals as goal
 
 pub returns-then-input-lt6 : goal.returns-then-input-lt6

@@ -3,7 +3,6 @@ use native.Mathlib.Omega.{arith}
 use Rattle.words.specs.Word.{AllBytes}
 use Rattle.telling.proofs.Laid.{input-good}
 use Rattle.telling.proofs.Writing.{input-judged, told-refused, told-good}
-use borrow.Author.Rules.{rules}
 use Rattle.telling.proofs.tell.Goals as goal
 
 pub answer_lines-requires : goal.answer_lines-requires

@@ -1,6 +1,5 @@
 use mathlib.Core.Path.{sym, ◌∙◌}
 use Rattle.telling.proofs.Lists.{member-put, member-passed}
-use borrow.Author.Rules.{rules}
 use Rattle.telling.proofs.lines.add_member.Goals as goal
 
 pub returns-then-has : goal.returns-then-has

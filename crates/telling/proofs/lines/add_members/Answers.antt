@@ -1,5 +1,5 @@
 use mathlib.Core.Path.{ap, ◌∙◌, ◌≡◌}
-use Prim.Native.Nat.{ℕ, ◌-◌, ◌≤◌}
+use Prim.Native.Nat.{ℕ}
 use Rattle.sets.specs.Sets.{members}
 use Rattle.sets.specs.Stored.{width, number}
 use Rattle.telling.specs.Held.{text, put}

@@ -1,10 +1,9 @@
-use mathlib.Core.Path.{ap, ◌∙◌, ◌≡◌}
-use Prim.Native.Nat.{ℕ, ◌-◌, ◌≤◌}
+use mathlib.Core.Path.{◌≡◌}
+use Prim.Native.Nat.{◌-◌, ◌≤◌}
 use Rattle.sets.specs.Sets.{members}
 use Rattle.sets.specs.Stored.{width, number}
 use Rattle.telling.specs.Held.{text, put}
-use Rattle.telling.proofs.Lists.{numbers, set-start, set-step}
-use native.Mathlib.Omega.{arith}
+use Rattle.telling.proofs.Lists.{numbers}
 use Rattle.telling.proofs.lines.add_members.Given as goal
 
 abbrev pub invariant-loop-v : goal.invariant-loop-v

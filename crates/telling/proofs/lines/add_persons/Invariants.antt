@@ -1,12 +1,9 @@
 use mathlib.Core.Path.{◌≡◌}
-use Prim.Native.Nat.{◌-◌, ◌≤◌}
-use lib.ListN.{length, take}
+use Prim.Native.Nat.{◌-◌}
+use lib.ListN.{take}
 use Rattle.cases.specs.Positions.{persons}
-use Rattle.cases.proofs.Positions.{persons-length}
 use Rattle.telling.specs.Held.{text, put}
-use Rattle.telling.proofs.Lists.{numbers, list-start, list-step, list-end}
-use native.Mathlib.Omega.{arith}
-use borrow.Author.Rules.{rules}
+use Rattle.telling.proofs.Lists.{numbers}
 use Rattle.telling.proofs.lines.add_persons.Given as goal
 
 abbrev pub invariant-loop-i : goal.invariant-loop-i

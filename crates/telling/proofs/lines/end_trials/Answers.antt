@@ -2,7 +2,6 @@ use mathlib.Core.List.{append_assoc}
 use Rattle.telling.proofs.Growing.{then-put, then-byte, put_same}
 use Rattle.telling.proofs.Lists.{append-nil}
 use Rattle.telling.specs.Lines.{spaced}
-use borrow.Author.Rules.{rules}
 use Rattle.telling.proofs.lines.end_trials.Goals as goal
 
 pub returns : goal.returns

@@ -3,7 +3,6 @@ use Rattle.telling.specs.Lines.{spaced, line}
 use Rattle.telling.specs.Telling.{asked_line}
 use Rattle.telling.proofs.Growing.{then-put, then-byte, put_same}
 use Rattle.telling.proofs.Lists.{append-nil}
-use borrow.Author.Rules.{rules}
 use Rattle.telling.proofs.lines.put_asked.Goals as goal
 
 pub returns : goal.returns

@@ -5,7 +5,6 @@ use Rattle.telling.specs.Telling.{listed}
 use Rattle.telling.specs.Held.{put}
 use Rattle.telling.proofs.Growing.{put_same}
 use Rattle.telling.proofs.Lists.{persons-none, persons-some}
-use borrow.Author.Rules.{rules}
 use Rattle.telling.proofs.lines.put_persons.Goals as goal
 
 pub returns-then-p-eq0 : goal.returns-then-p-eq0

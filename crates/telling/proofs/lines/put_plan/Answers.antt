@@ -1,7 +1,6 @@
 use mathlib.Core.Path.{ap}
 use Rattle.telling.specs.Telling.{plan_words, plan_line}
 use Rattle.telling.proofs.Sayings.{answer-line, shown-line}
-use borrow.Author.Rules.{rules}
 use Rattle.telling.proofs.lines.put_plan.Goals as goal
 
 pub returns-in-Refused : goal.returns-in-Refused

@@ -1,7 +1,6 @@
 use Rattle.telling.specs.Lines.{line}
 use Rattle.telling.specs.Telling.{refused_line}
 use Rattle.telling.proofs.Growing.{then-put}
-use borrow.Author.Rules.{rules}
 use Rattle.telling.proofs.lines.put_refusal.Goals as goal
 
 pub returns : goal.returns

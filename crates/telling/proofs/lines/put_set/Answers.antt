@@ -3,7 +3,6 @@ use Rattle.sets.specs.Stored.{lowest_number}
 use Rattle.telling.specs.Lines.{spaced}
 use Rattle.telling.proofs.Growing.{put_same}
 use Rattle.telling.proofs.Lists.{members-none, members-some}
-use borrow.Author.Rules.{rules}
 use Rattle.telling.proofs.lines.put_set.Goals as goal
 
 pub returns-in-Nobody : goal.returns-in-Nobody

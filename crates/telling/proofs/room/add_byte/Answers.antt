@@ -1,5 +1,4 @@
 use Rattle.telling.proofs.Growing.{byte_full, byte_put}
-use borrow.Author.Rules.{rules}
 use Rattle.telling.proofs.room.add_byte.Goals as goal
 
 pub returns-then-at-ge-ROOM : goal.returns-then-at-ge-ROOM

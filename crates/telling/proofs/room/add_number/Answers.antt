@@ -2,7 +2,6 @@ use mathlib.Core.Path.{ap, ◌∙◌}
 use Rattle.telling.specs.declared.text.Text.{Text}
 use Rattle.telling.specs.Lines.{decimal}
 use Rattle.telling.specs.Held.{put}
-use borrow.Author.Rules.{rules}
 use Rattle.telling.proofs.room.add_number.Goals as goal
 
 pub returns : goal.returns

@@ -2,9 +2,6 @@ use mathlib.Core.Path.{◌≡◌}
 use Prim.Native.Nat.{◌-◌}
 use lib.ListN.{length, take}
 use Rattle.telling.specs.Held.{text, put}
-use Rattle.telling.proofs.Growing.{word-start, word-step, word_end}
-use native.Mathlib.Omega.{arith}
-use borrow.Author.Rules.{rules}
 use Rattle.telling.proofs.room.add_word.Given as goal
 
 abbrev pub invariant-loop-i : goal.invariant-loop-i
