@@ -1,16 +1,15 @@
 -- What the calls of play accept: every valid position that is not full, and every set of at most t of the people.
-use mathlib.Core.Path.{◌≡◌, refl, sym, ap, ap₂, ◌∙◌, subst}
-use mathlib.Core.Bool.{Bool, false, ◌||◌}
+use mathlib.Core.Path.{◌≡◌, ap₂, ◌∙◌}
+use mathlib.Core.Bool.{Bool, ◌||◌}
 use mathlib.Core.Option.{none}
 use mathlib.Core.List.{List, [], ◌∷◌}
 use Prim.Native.Nat.{ℕ, ◌^◌, ◌≤◌, ◌<◌}
 use native.Mathlib.Nat.{lt_of_lt_of_le}
 use native.Mathlib.Omega.{arith}
 use borrow.Author.Tests.{le-ltb}
-use lib.Dec.{ltb}
 use lib.ListN.{length, get_or}
 use lib.Pow.{pow_mono}
-use Rattle.sets.specs.Sets.{size, past}
+use Rattle.sets.specs.Sets.{size}
 use Rattle.sets.specs.Stored.{width}
 use Rattle.sets.specs.Lists.{only_if}
 use Rattle.sets.proofs.NotBelow.{lt-past}
@@ -22,9 +21,8 @@ use Rattle.cases.specs.Plans.{Valid}
 use Rattle.cases.proofs.Rounds.{may-known}
 use Rattle.refusals.specs.declared.Judged.TheVariants.{Good}
 use Rattle.refusals.specs.Refusals.{refusal, judged_by, or_else}
-use Rattle.refusals.specs.CaseChecks.{judged_case}
 use Rattle.refusals.proofs.Cases.{good-limited}
-use Rattle.asking.specs.Asking.{position_check, absence_check, judged_question, judged_away, judged_advice}
+use Rattle.asking.specs.Asking.{absence_check, judged_question, judged_away, judged_advice}
 use Rattle.asking.proofs.Accepted.{GoodPosition, accepted-position}
 use Rattle.asking.proofs.Calls.{away-order, advice-order, question-good}
 

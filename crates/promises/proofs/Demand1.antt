@@ -2,7 +2,7 @@
 -- (For files and for the writer this is said in `files` and `trips`.)
 use mathlib.Core.Path.{◌≡◌, refl, sym, ap, ap₂, ◌∙◌, subst}
 use mathlib.Core.Logic.{◌↔◌}
-use mathlib.Core.Option.{Option, none, some, some-ne-none}
+use mathlib.Core.Option.{some, some-ne-none}
 use mathlib.Core.Bool.{not, ◌||◌}
 use mathlib.Core.List.{List, [], ◌∷◌, ◌++◌}
 use Prim.Native.Nat.{ℕ, suc, ◌*◌, ◌<◌}
@@ -13,7 +13,7 @@ use Rattle.sets.specs.Lists.{pick}
 use Rattle.games.specs.Limit.{Answer, cut}
 use Rattle.cases.specs.declared.Case.{Case}
 use Rattle.cases.specs.declared.Counts.{Counts}
-use Rattle.cases.specs.Case.{SameBelow, people}
+use Rattle.cases.specs.Case.{SameBelow}
 use Rattle.cases.specs.Chain.{plan_of, advice_at, away_at}
 use Rattle.cases.proofs.Counted.{SameWalks, nothing-above-counts, may-same, holds_same}
 use Rattle.refusals.specs.declared.Judged.{Judged}
@@ -41,7 +41,7 @@ use Rattle.planner.specs.declared.Question.{Question}
 use Rattle.planner.specs.declared.Question.TheVariants.{Static, Decremental, OneShot, Dynamic}
 use Rattle.planner.specs.Answers.{plan_given, verdict_given, advice_given, away_given}
 use Rattle.planner.specs.Calls.{plan_call, walk_of, question_call, advice_call, away_call}
-use Rattle.planner.specs.Told.{Told, refused, answered, plan_told, verdict_told, advice_told, away_told}
+use Rattle.planner.specs.Told.{Told, refused, plan_told, verdict_told, advice_told, away_told}
 use Rattle.promises.specs.Ends.{number_in, place_in, RefusedAt, ByTable}
 use Rattle.promises.proofs.Telling.{told, told-answered, good-told, plan-told, question-told, advice-told, away-told}
 

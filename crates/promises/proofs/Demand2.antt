@@ -1,13 +1,11 @@
 -- Demand 2: plans and verdicts are those of the report (docs/SCOPE.md names it), and "limit" is said exactly if the stated walk needs more trials than allowed. In each theorem
 -- the call ends within its limit: it tells b after some trials.
-use mathlib.Core.Path.{◌≡◌, refl, sym, ap, ◌∙◌, subst}
+use mathlib.Core.Path.{◌≡◌, refl, sym, ◌∙◌}
 use mathlib.Core.Logic.{◌↔◌}
 use mathlib.Core.Option.{Option, none, some}
 use mathlib.Core.List.{List, []}
 use Prim.Native.Nat.{ℕ, ◌≤◌, ◌<◌}
-use native.Mathlib.Nat.{le_trans}
 use Rattle.games.specs.Games.{Absent}
-use Rattle.games.specs.Walks.{Walk}
 use Rattle.games.specs.Limit.{Ended, limit, ended, cut}
 use Rattle.cases.specs.declared.Case.{Case}
 use Rattle.cases.specs.Case.{people, steps}
@@ -28,9 +26,9 @@ use Rattle.planner.specs.declared.PlanSays.TheVariants as says
 use Rattle.planner.specs.Answers.{plan_given}
 use Rattle.cases.specs.Positions.{start_position}
 use Rattle.planner.specs.Calls.{plan_call, walk_of, question_call, static_call, decremental_call, one_shot_call, dynamic_call, advice_call, away_call}
-use Rattle.planner.specs.Told.{Told, plan_told, verdict_told, advice_told, away_told}
+use Rattle.planner.specs.Told.{plan_told, verdict_told, advice_told, away_told}
 use Rattle.promises.specs.Ends.{SaysLimit, EndsAfter, Ends, Came}
-use Rattle.promises.proofs.Telling.{told, came, comes, limit-told, plan-told, question-told, advice-told, away-told}
+use Rattle.promises.proofs.Telling.{came, comes, limit-told, plan-told, question-told, advice-told, away-told}
 
 -- ---- what a call that ends says of its walk
 

@@ -1,10 +1,10 @@
 -- Demand 3: a verdict can be acted on, step by step, with the public calls.
 use mathlib.Core.Path.{◌≡◌, refl, sym, ap, ◌∙◌, subst}
 use mathlib.Core.Logic.{◌↔◌}
-use mathlib.Core.Option.{Option, none, some, none-ne-some, some-injective}
+use mathlib.Core.Option.{Option, none, some}
 use mathlib.Core.Bool.{false}
 use mathlib.Core.List.{List, [], ◌∷◌, ◌++◌, map, append_assoc}
-use Prim.Native.Nat.{ℕ, zero, suc, ◌-◌, ◌+◌, ◌^◌, ◌≤◌, ◌<◌}
+use Prim.Native.Nat.{ℕ, suc, ◌-◌, ◌+◌, ◌^◌, ◌<◌}
 use native.Mathlib.Nat.{not-suc-le-zero}
 use native.Mathlib.Omega.{arith}
 use lib.ListN.{length, get_or, take, drop, length-append, length-map, length-take, take-append-drop}
@@ -12,16 +12,15 @@ use lib.Seq.{get_or_at}
 use Rattle.sets.specs.Sets.{has, size}
 use Rattle.sets.specs.Stored.{width}
 use Rattle.games.specs.Games.{Absent, Dynamic}
-use Rattle.games.specs.Walks.{Yes, No}
 use Rattle.cases.specs.declared.Case.{Case}
 use Rattle.cases.specs.Case.{people, steps}
 use Rattle.cases.specs.Plans.{Valid, Plan}
-use Rattle.cases.specs.Questions.{Placed, DynamicYes}
+use Rattle.cases.specs.Questions.{Placed}
 use Rattle.cases.specs.Play.{WinsFrom, LeavesGood, GoodSet, Names, Dodges}
 use Rattle.cases.specs.Chain.{advice_at, away_at}
 use Rattle.cases.proofs.Rounds.{may-known, start-valid, snoc-each, last-able, prefix-valid, valid-short}
 use Rattle.cases.proofs.Positions.{map-append}
-use Rattle.cases.proofs.Answers.{plan-exact, dynamic-exact, dynamic-decremental, decremental-one_shot, one_shot-static, static-plan}
+use Rattle.cases.proofs.Answers.{dynamic-exact, dynamic-decremental, decremental-one_shot, one_shot-static, static-plan}
 use Rattle.cases.proofs.Play.{away-names, away-none-more, advice-names, advice-names-none, away-none-wins}
 use Rattle.cases.proofs.Play as play
 use Rattle.refusals.specs.declared.Judged.TheVariants.{Good}

@@ -17,7 +17,6 @@ use Rattle.sets.specs.declared.Lowest.{Lowest}
 use Rattle.sets.specs.declared.Lowest.TheVariants as lowest
 use Rattle.sets.proofs.Records.{stored-number, number-injective}
 use Rattle.games.specs.Limit.{Ended, limit, ended, Answer}
-use Rattle.cases.specs.declared.Person.{Person}
 use Rattle.cases.specs.declared.Filled.{Filled}
 use Rattle.cases.specs.Positions.{persons}
 use Rattle.boards.specs.Board.{fits_on}

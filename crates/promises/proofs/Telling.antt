@@ -12,7 +12,7 @@ use Rattle.games.specs.Walks.{Walk}
 use Rattle.games.specs.Limit.{Ended, limit, ended, Answer, stopped, whole, cut}
 use Rattle.games.proofs.Limits.{cut-within, cut-past, cut-limit, cut-ended, cut-trials}
 use Rattle.cases.specs.declared.Case.{Case}
-use Rattle.cases.specs.Case.{most_steps, steps}
+use Rattle.cases.specs.Case.{most_steps}
 use Rattle.cases.specs.Chain.{plan_of, advice_at, away_at}
 use Rattle.cases.proofs.Answers.{plan-first-got}
 use Rattle.refusals.specs.declared.Refusal.{Refusal}

@@ -1,6 +1,6 @@
 -- A call is refused, stops at its limit, or ends within it.
 use Rattle.std.specs.Prelude.{◌≡◌, ◌↔◌, List, ℕ, ◌≤◌, ◌<◌}
-use Rattle.std.proofs.Math.Option.{Option, none, some}
+use Rattle.std.proofs.Math.Option.{none, some}
 use Rattle.games.specs.Walks.{Walk}
 use Rattle.games.specs.Limit.{Answer, stopped, whole}
 use Rattle.refusals.specs.declared.Judged.{Judged}
