@@ -1,5 +1,5 @@
 -- Each call from what it calls: judged, then refused or walked on the board of the case.
-use mathlib.Core.Path.{◌≡◌, refl, sym, ap, ap₂, ◌∙◌, subst}
+use mathlib.Core.Path.{◌≡◌, refl, sym, ap, ap₂, ◌∙◌}
 use mathlib.Core.Logic.{inl}
 use mathlib.Core.Bool.{Bool, true, false}
 use mathlib.Core.Option.{Option, none, some}
@@ -10,7 +10,7 @@ use lib.Dec.{leb}
 use lib.ListN.{length, get_or}
 use lib.Seq.{ext_get_or}
 use Rattle.sets.specs.Lists.{pick, upto}
-use Rattle.games.specs.Walks.{Search, plan, dynamic, advice, away}
+use Rattle.games.specs.Walks.{Search, dynamic, advice, away}
 use Rattle.games.specs.Limit.{Answer, stopped, whole, cut}
 use Rattle.games.proofs.Walks.{told}
 use Rattle.cases.specs.declared.Case.{Case}

@@ -13,7 +13,6 @@ use Rattle.cases.specs.Positions.{persons, zero_person}
 use Rattle.cases.proofs.Positions.{upto-at, upto-many}
 use Rattle.tries.specs.declared.Verdict.TheVariants as walked
 use Rattle.tries.specs.Outcomes.{verdict_outcome}
-use Rattle.planner.specs.declared.PlanSays.TheVariants as plan
 use Rattle.planner.specs.declared.VerdictAnswer.TheVariants as verdict
 use Rattle.planner.specs.declared.AwayAnswer.TheVariants as away
 use Rattle.planner.specs.Answers.{person_of, position_of, verdict_answer, away_answer}

@@ -3,13 +3,12 @@
 use Rattle.std.proofs.Math.Option.{Option, none, some}
 use Rattle.std.specs.Prelude.{List, map, ℕ, length, get_or}
 use Rattle.sets.specs.Lists.{upto}
-use Rattle.sets.specs.Stored.{number, stored}
+use Rattle.sets.specs.Stored.{stored}
 use Rattle.games.specs.Limit.{Ended, limit, ended, Answer}
 use Rattle.cases.specs.Case.{most_steps}
-use Rattle.cases.specs.Positions.{persons, start_position}
+use Rattle.cases.specs.Positions.{start_position}
 use Rattle.cases.specs.declared.Person.{Person}
 use Rattle.cases.specs.declared.Position.{Position}
-use Rattle.refusals.specs.declared.Refusal.{Refusal}
 use Rattle.refusals.specs.declared.Judged.{Judged}
 use Rattle.refusals.specs.declared.Judged.TheVariants.{Good, Refused}
 use Rattle.planner.specs.declared.PlanSays.{PlanSays}
