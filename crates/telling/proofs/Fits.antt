@@ -18,7 +18,7 @@ use Rattle.games.specs.Limit.{Ended, limit, ended, stopped, whole, cut}
 use Rattle.games.proofs.Limits.{cut-ended}
 use Rattle.cases.specs.declared.Case.{Case}
 use Rattle.cases.specs.declared.Counts.{Counts}
-use Rattle.cases.specs.Case.{most_people, most_steps, most_roles, most_tables, most_rules, people, steps}
+use Rattle.cases.specs.Case.{most_people, most_steps, most_roles, most_tables, most_rules}
 use Rattle.cases.specs.Plans.{Plan}
 use Rattle.cases.specs.Chain.{plan_of}
 use Rattle.cases.specs.Positions.{persons}
