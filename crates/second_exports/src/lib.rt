@@ -2,6 +2,6 @@
 #![tactic(auto)]
 
 mod calls;
-mod tries;
+mod trying;
 
-pub use tries::{try_exported, try_refused_exported};
+pub use trying::{try_exported, try_refused_exported};

@@ -2,7 +2,7 @@
 #![tactic(auto)]
 
 mod questions;
-mod rounds;
+mod playing;
 
 pub use questions::{try_advice, try_away};
-pub use rounds::{play_away, play_desk};
+pub use playing::{play_away, play_desk};

@@ -1,9 +1,9 @@
 // The text of the program `verdicts`, as a function of its input. It knows the layout of the input and the lines, and nothing of streams.
 #![tactic(auto)]
 
-mod lines;
 mod room;
 mod text;
+mod text_lines;
 
 ghost use Rattle.std.specs.Prelude.{◌≡◌, []};
 ghost use Rattle.files.specs.Reading.{read_of};
@@ -15,11 +15,11 @@ use asking::judge_number;
 use cases::Case;
 use files::{FileRead, read};
 use laying::lay_out;
-pub use lines::{put_asked, put_case, put_plan, put_refusal, put_verdict};
 use pieces::Order;
 use planner::{Question, ask_laid, plan_laid};
 use refusals::Judged;
 pub use text::Text;
+pub use text_lines::{put_asked, put_case, put_plan, put_refusal, put_verdict};
 use words::{long_at, word_at};
 
 // What the program writes for this input: the lines of a case's answers, or the one line of a refusal. No input is too short or too long.
