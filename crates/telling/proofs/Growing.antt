@@ -70,6 +70,9 @@ digits_more t x y (suc k) n p h e f =
     ∙ put-byte-after t (digits k (n / 10)) (digit (n % 10))
     ∙ ap (put t) (pick-ge n 10 (digit n ∷ []) (digits k (n / 10) ++ (digit (n % 10) ∷ [])) h)
 
+-- the digits of a number, as the check looks for them
+pub ruleset digit_rules = (digits-none, digits-one, digits_more)
+
 -- ---- puts one after the other
 
 module _ (t x y : Text) (a : List ℕ) (e : x ≡ put t a) where

@@ -39,6 +39,7 @@ pub fn add_number(bytes: &mut [u8; Text::ROOM], at: usize, n: u64) -> usize
 }
 
 // A number of at most `most` digits.
+#[tactic(auto, using(crate::proofs::Growing::digit_rules))]
 fn add_digits(bytes: &mut [u8; Text::ROOM], at: usize, n: u64, most: u8) -> usize
     ensures { text bytes.new result ≡ put (text bytes.old at) (digits most n) }
 {

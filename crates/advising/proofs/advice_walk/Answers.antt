@@ -80,14 +80,14 @@ pub returns-in-Limit-rest_alike : goal.returns-in-Limit-rest_alike
 returns-in-Limit-rest_alike c =
     let going = c.loop-trials.invariant _ (advice-going _ _ _ _ _ _ _ c.if-left-eq0.false c.requires (is-alone _ _ c.several.ensures c.if-several.false) _ _ (c.line_up-lined.ensures _ (agree_same _ _))) in
     let there = try-person going _ _ (sym (ap try_outcome c.in-Person.is) ∙ c.next_try.ensures) in
-    alike-limit (alike-by _ _ _ _ (λ u. sym (ap (verdict_outcome _) c.in-No.is) ∙ c.dynamic_from-sub.ensures _ (placed_alike _ (agree_same _ _) _ _ c.in-Person.v c.placed.ensures c.next_step-step.ensures (grind arith) u))) (λ u. refl) (going-as (sub-on there _ _ (sym (ap (verdict_outcome _) c.in-No.is) ∙ c.dynamic_from-sub.ensures _ (placed-agree _ (agree_same _ _) _ _ c.in-Person.v c.placed.ensures c.next_step-step.ensures)) _ refl) c.behind-line.ensures.0 c.behind-line.ensures.1)
+    alike-limit (alike-by _ _ _ _ (λ u. sym (ap (verdict_outcome _) c.in-No.is) ∙ c.dynamic_from-sub.ensures _ (placed_alike _ (agree_same _ _) _ _ c.in-Person.v c.placed.ensures c.next_step-step.ensures (sym c.holds-asked.ensures ∙ c.if-not-asked.true) u))) (λ u. refl) (going-as (sub-on there _ _ (sym (ap (verdict_outcome _) c.in-No.is) ∙ c.dynamic_from-sub.ensures _ (placed-agree _ (agree_same _ _) _ _ c.in-Person.v c.placed.ensures c.next_step-step.ensures)) _ refl) c.behind-line.ensures.0 c.behind-line.ensures.1)
     (sym (ap spent_outcome c.in-Limit-rest_alike.is) ∙ c.rest_alike.ensures)
 
 pub returns-in-All : goal.returns-in-All
 returns-in-All c =
     let going = c.loop-trials.invariant _ (advice-going _ _ _ _ _ _ _ c.if-left-eq0.false c.requires (is-alone _ _ c.several.ensures c.if-several.false) _ _ (c.line_up-lined.ensures _ (agree_same _ _))) in
     let there = try-person going _ _ (sym (ap try_outcome c.in-Person.is) ∙ c.next_try.ensures) in
-    alike_all (alike-by _ _ _ _ (λ u. sym (ap (verdict_outcome _) c.in-No.is) ∙ c.dynamic_from-sub.ensures _ (placed_alike _ (agree_same _ _) _ _ c.in-Person.v c.placed.ensures c.next_step-step.ensures (grind arith) u))) (λ u. refl) (going-as (sub-on there _ _ (sym (ap (verdict_outcome _) c.in-No.is) ∙ c.dynamic_from-sub.ensures _ (placed-agree _ (agree_same _ _) _ _ c.in-Person.v c.placed.ensures c.next_step-step.ensures)) _ refl) c.behind-line.ensures.0 c.behind-line.ensures.1) _
+    alike_all (alike-by _ _ _ _ (λ u. sym (ap (verdict_outcome _) c.in-No.is) ∙ c.dynamic_from-sub.ensures _ (placed_alike _ (agree_same _ _) _ _ c.in-Person.v c.placed.ensures c.next_step-step.ensures (sym c.holds-asked.ensures ∙ c.if-not-asked.true) u))) (λ u. refl) (going-as (sub-on there _ _ (sym (ap (verdict_outcome _) c.in-No.is) ∙ c.dynamic_from-sub.ensures _ (placed-agree _ (agree_same _ _) _ _ c.in-Person.v c.placed.ensures c.next_step-step.ensures)) _ refl) c.behind-line.ensures.0 c.behind-line.ensures.1) _
     (sym (ap spent_outcome c.in-All.is) ∙ c.rest_alike.ensures)
 
 pub loop-trials-smaller : goal.loop-trials-smaller
