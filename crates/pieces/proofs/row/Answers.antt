@@ -1,7 +1,6 @@
 use Prim.Native.Nat.{◌-◌}
 use native.Mathlib.Omega.{arith}
-use mathlib.Core.Path.{ap, ◌∙◌}
-use Rattle.sets.specs.Stored.{number}
+use mathlib.Core.Path.{ap}
 use Rattle.sets.proofs.Records.{number-none}
 use Rattle.pieces.proofs.Rows.{most, same_row, different-row, table-row}
 use Rattle.pieces.proofs.row.Goals as goal
