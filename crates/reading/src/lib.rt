@@ -2,19 +2,24 @@
 #![tactic(auto)]
 
 ghost use Rattle.std.specs.Io.{ReadsAtMost};
+ghost use Rattle.std.specs.Io.KnownBytes.{Consumes, IsAtEnd};
+ghost use Rattle.std.specs.Prelude.{◌<◌, length, take, IfOk};
 
 use std::io;
 use std::io::Read;
 
-// Reads until the buffer is full, the input ends or a read fails, and says how many bytes stand at the start of the buffer.
-pub fn read_full(from: &mut impl Read, buf: &mut [u8]) -> io::Result<usize>
-    ensures { ReadsAtMost result buf.new }
+// Reads until the buffer is full, the input ends or a read fails, and says how many bytes stand at the start of the buffer. Where it is known what the
+// reader has left, those bytes are taken from its front, and nothing is left where the buffer is not full.
+pub fn read_full<R: Read>(from: &mut R, buf: &mut [u8]) -> io::Result<usize>
+    ensures bound { ReadsAtMost result buf.new }
+    ensures bytes { IfOk result (λ n. Consumes (R.remaining from.old) (R.remaining from.new) (take n buf.new)) }
+    ensures filled { IfOk result (λ n. n < length buf.new → IsAtEnd (R.remaining from.new)) }
 {
     let mut done = 0;
     while done < buf.len() {
         let n = from.read(&mut buf[done..])?;
         if n == 0 {
-            break;
+            return Ok(done);
         }
         done += n;
     }

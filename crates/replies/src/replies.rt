@@ -3,7 +3,7 @@ ghost use Rattle.std.specs.Prelude.{◌≡◌, get_or};
 ghost use Rattle.sets.specs.Stored.{number};
 ghost use Rattle.cases.specs.Positions.{persons};
 ghost use Rattle.replies.specs.Replies.{refused_reply, said_reply, shown_reply, plan_reply, verdict_reply, advice_reply, away_reply};
-ghost use Rattle.replies.specs.Replies.{reply as Replies·reply};
+ghost use Rattle.replies.specs.Replies.{reply as reply_numbers};
 
 use cases::{Person, Position, Step};
 use planner::{AdviceAnswer, AwayAnswer, PlanAnswer, PlanSays, VerdictAnswer};
@@ -115,7 +115,7 @@ fn reply(
     person: Person,
     plan: Position,
 ) -> [u64; NUMBERS]
-    ensures { result ≡ Replies·reply what trials (number people) step.0 person.0 (persons plan) }
+    ensures { result ≡ reply_numbers what trials (number people) step.0 person.0 (persons plan) }
 {
     let way = 0;
     [

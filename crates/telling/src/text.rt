@@ -2,7 +2,7 @@
 ghost use Rattle.std.specs.Prelude.{◌≡◌, [], ◌∷◌};
 ghost use Rattle.telling.specs.Lines.{decimal};
 ghost use Rattle.telling.specs.Held.{held, put_byte};
-ghost use Rattle.telling.specs.Held.{put as Held·put};
+ghost use Rattle.telling.specs.Held.{put as put_held};
 
 use crate::room::{add_number, add_word};
 
@@ -43,7 +43,7 @@ impl Text {
 
     // More bytes.
     pub fn put(self, word: &[u8]) -> Text
-        ensures { result ≡ Held·put self word.now }
+        ensures { result ≡ put_held self word.now }
     {
         let mut bytes = self.bytes;
         let len = add_word(&mut bytes, self.len, word);
@@ -55,7 +55,7 @@ impl Text {
 
     // A space and a number.
     pub fn put_number(self, n: u64) -> Text
-        ensures { result ≡ Held·put self (32 ∷ decimal n) }
+        ensures { result ≡ put_held self (32 ∷ decimal n) }
     {
         let mut bytes = self.bytes;
         let len = add_number(&mut bytes, self.len, n);

@@ -18,78 +18,105 @@ loop-trials-init c = λ w g. g
 
 pub next_move-requires : goal.next_move-requires
 next_move-requires c =
-    let going = c.loop-trials.invariant _ (advice-choosing _ _ _ _ _ _ (some_left c.requires.0) c.requires.1 c.lines_up-choices.ensures.few (c.lines_up-choices.ensures.lines _ (agree_same _ _)) _ _ c.without-lines.ensures _) in
+    let said = c.lines_up-choices.ensures.lines _ (agree_same _ _) in
+    let going = c.loop-trials.invariant _ (advice-choosing _ _ _ _ _ _ (some_left c.requires.0) c.requires.1 c.lines_up-choices.ensures.few said _ _ c.without-lines.ensures _) in
     (omega (arith, c.without-lines.ensures.count, c.lines_up-choices.ensures.few), going.enough)
 
 pub returns-in-Limit : goal.returns-in-Limit
 returns-in-Limit c =
-    let going = c.loop-trials.invariant _ (advice-choosing _ _ _ _ _ _ (some_left c.requires.0) c.requires.1 c.lines_up-choices.ensures.few (c.lines_up-choices.ensures.lines _ (agree_same _ _)) _ _ c.without-lines.ensures _) in
-    try-limit going (sym (ap try_outcome c.in-Limit.is) ∙ c.next_move.ensures)
+    let said = c.lines_up-choices.ensures.lines _ (agree_same _ _) in
+    let told = sym (ap try_outcome c.in-Limit.is) ∙ c.next_move.ensures in
+    let going = c.loop-trials.invariant _ (advice-choosing _ _ _ _ _ _ (some_left c.requires.0) c.requires.1 c.lines_up-choices.ensures.few said _ _ c.without-lines.ensures _) in
+    try-limit going told
 
 pub returns-in-Nobody : goal.returns-in-Nobody
 returns-in-Nobody c =
-    let going = c.loop-trials.invariant _ (advice-choosing _ _ _ _ _ _ (some_left c.requires.0) c.requires.1 c.lines_up-choices.ensures.few (c.lines_up-choices.ensures.lines _ (agree_same _ _)) _ _ c.without-lines.ensures _) in
-    try-nobody going _ (sym (ap try_outcome c.in-Nobody.is) ∙ c.next_move.ensures)
+    let said = c.lines_up-choices.ensures.lines _ (agree_same _ _) in
+    let told = sym (ap try_outcome c.in-Nobody.is) ∙ c.next_move.ensures in
+    let going = c.loop-trials.invariant _ (advice-choosing _ _ _ _ _ _ (some_left c.requires.0) c.requires.1 c.lines_up-choices.ensures.few said _ _ c.without-lines.ensures _) in
+    try-nobody going _ told
 
 -- ---- a move is tried: its line is one of eight
 pub bounds-lines-here : goal.bounds-lines-here
 bounds-lines-here c =
-    let going = c.loop-trials.invariant _ (advice-choosing _ _ _ _ _ _ (some_left c.requires.0) c.requires.1 c.lines_up-choices.ensures.few (c.lines_up-choices.ensures.lines _ (agree_same _ _)) _ _ c.without-lines.ensures _) in
-    let there = try-move going _ _ (sym (ap try_outcome c.in-Move.is) ∙ c.next_move.ensures) in
+    let said = c.lines_up-choices.ensures.lines _ (agree_same _ _) in
+    let told = sym (ap try_outcome c.in-Move.is) ∙ c.next_move.ensures in
+    let going = c.loop-trials.invariant _ (advice-choosing _ _ _ _ _ _ (some_left c.requires.0) c.requires.1 c.lines_up-choices.ensures.few said _ _ c.without-lines.ensures _) in
+    let there = try-move going _ _ told in
     omega (arith, there.found.listed, c.without-lines.ensures.count, c.lines_up-choices.ensures.few)
 
 pub overflow_sub-limit : goal.overflow_sub-limit
 overflow_sub-limit c =
-    let going = c.loop-trials.invariant _ (advice-choosing _ _ _ _ _ _ (some_left c.requires.0) c.requires.1 c.lines_up-choices.ensures.few (c.lines_up-choices.ensures.lines _ (agree_same _ _)) _ _ c.without-lines.ensures _) in
-    let there = try-move going _ _ (sym (ap try_outcome c.in-Move.is) ∙ c.next_move.ensures) in
+    let said = c.lines_up-choices.ensures.lines _ (agree_same _ _) in
+    let told = sym (ap try_outcome c.in-Move.is) ∙ c.next_move.ensures in
+    let going = c.loop-trials.invariant _ (advice-choosing _ _ _ _ _ _ (some_left c.requires.0) c.requires.1 c.lines_up-choices.ensures.few said _ _ c.without-lines.ensures _) in
+    let there = try-move going _ _ told in
     there.enough
 
 -- ---- what the move leaves was walked
 pub returns-in-Limit-verdict : goal.returns-in-Limit-verdict
 unfolding line_at
 returns-in-Limit-verdict c =
-    let going = c.loop-trials.invariant _ (advice-choosing _ _ _ _ _ _ (some_left c.requires.0) c.requires.1 c.lines_up-choices.ensures.few (c.lines_up-choices.ensures.lines _ (agree_same _ _)) _ _ c.without-lines.ensures _) in
-    let there = try-move going _ _ (sym (ap try_outcome c.in-Move.is) ∙ c.next_move.ensures) in
-    sub-limit there (sym (ap (verdict_outcome _) c.in-Limit-verdict.is) ∙ c.dynamic_from-sub.ensures _ (move-agree (agree_same _ _) _ _ c.without-lines.result c.in-Move.m c.placed.ensures refl))
+    let said = c.lines_up-choices.ensures.lines _ (agree_same _ _) in
+    let told = sym (ap try_outcome c.in-Move.is) ∙ c.next_move.ensures in
+    let told_2 = sym (ap (verdict_outcome _) c.in-Limit-verdict.is) ∙ c.dynamic_from-sub.ensures _ (move-agree (agree_same _ _) _ _ c.without-lines.result c.in-Move.m c.placed.ensures refl) in
+    let going = c.loop-trials.invariant _ (advice-choosing _ _ _ _ _ _ (some_left c.requires.0) c.requires.1 c.lines_up-choices.ensures.few said _ _ c.without-lines.ensures _) in
+    let there = try-move going _ _ told in
+    sub-limit there told_2
 
 -- ---- the move is good
 pub overflow_add-result : goal.overflow_add-result
 unfolding line_at
 overflow_add-result c =
-    let going = c.loop-trials.invariant _ (advice-choosing _ _ _ _ _ _ (some_left c.requires.0) c.requires.1 c.lines_up-choices.ensures.few (c.lines_up-choices.ensures.lines _ (agree_same _ _)) _ _ c.without-lines.ensures _) in
-    let there = try-move going _ _ (sym (ap try_outcome c.in-Move.is) ∙ c.next_move.ensures) in
-    omega (arith, c.ranges.limit.fits, sub_within there _ _ (sym (ap (verdict_outcome _) c.in-Yes.is) ∙ c.dynamic_from-sub.ensures _ (move-agree (agree_same _ _) _ _ c.without-lines.result c.in-Move.m c.placed.ensures refl)))
+    let said = c.lines_up-choices.ensures.lines _ (agree_same _ _) in
+    let told = sym (ap try_outcome c.in-Move.is) ∙ c.next_move.ensures in
+    let told_2 = sym (ap (verdict_outcome _) c.in-Yes.is) ∙ c.dynamic_from-sub.ensures _ (move-agree (agree_same _ _) _ _ c.without-lines.result c.in-Move.m c.placed.ensures refl) in
+    let going = c.loop-trials.invariant _ (advice-choosing _ _ _ _ _ _ (some_left c.requires.0) c.requires.1 c.lines_up-choices.ensures.few said _ _ c.without-lines.ensures _) in
+    let there = try-move going _ _ told in
+    omega (arith, c.ranges.limit.fits, sub_within there _ _ told_2)
 
 pub returns-in-Yes : goal.returns-in-Yes
 unfolding line_at step_of
 returns-in-Yes c =
-    let going = c.loop-trials.invariant _ (advice-choosing _ _ _ _ _ _ (some_left c.requires.0) c.requires.1 c.lines_up-choices.ensures.few (c.lines_up-choices.ensures.lines _ (agree_same _ _)) _ _ c.without-lines.ensures _) in
-    let there = try-move going _ _ (sym (ap try_outcome c.in-Move.is) ∙ c.next_move.ensures) in
-    sub-done there _ _ (sym (ap (verdict_outcome _) c.in-Yes.is) ∙ c.dynamic_from-sub.ensures _ (move-agree (agree_same _ _) _ _ c.without-lines.result c.in-Move.m c.placed.ensures refl)) _ refl
+    let said = c.lines_up-choices.ensures.lines _ (agree_same _ _) in
+    let told = sym (ap try_outcome c.in-Move.is) ∙ c.next_move.ensures in
+    let told_2 = sym (ap (verdict_outcome _) c.in-Yes.is) ∙ c.dynamic_from-sub.ensures _ (move-agree (agree_same _ _) _ _ c.without-lines.result c.in-Move.m c.placed.ensures refl) in
+    let going = c.loop-trials.invariant _ (advice-choosing _ _ _ _ _ _ (some_left c.requires.0) c.requires.1 c.lines_up-choices.ensures.few said _ _ c.without-lines.ensures _) in
+    let there = try-move going _ _ told in
+    sub-done there _ _ told_2 _ refl
 
 -- ---- the move is bad
 pub overflow_add-used : goal.overflow_add-used
 unfolding line_at
 overflow_add-used c =
-    let going = c.loop-trials.invariant _ (advice-choosing _ _ _ _ _ _ (some_left c.requires.0) c.requires.1 c.lines_up-choices.ensures.few (c.lines_up-choices.ensures.lines _ (agree_same _ _)) _ _ c.without-lines.ensures _) in
-    let there = try-move going _ _ (sym (ap try_outcome c.in-Move.is) ∙ c.next_move.ensures) in
-    omega (arith, c.ranges.limit.fits, sub_within there _ _ (sym (ap (verdict_outcome _) c.in-No.is) ∙ c.dynamic_from-sub.ensures _ (move-agree (agree_same _ _) _ _ c.without-lines.result c.in-Move.m c.placed.ensures refl)))
+    let said = c.lines_up-choices.ensures.lines _ (agree_same _ _) in
+    let told = sym (ap try_outcome c.in-Move.is) ∙ c.next_move.ensures in
+    let told_2 = sym (ap (verdict_outcome _) c.in-No.is) ∙ c.dynamic_from-sub.ensures _ (move-agree (agree_same _ _) _ _ c.without-lines.result c.in-Move.m c.placed.ensures refl) in
+    let going = c.loop-trials.invariant _ (advice-choosing _ _ _ _ _ _ (some_left c.requires.0) c.requires.1 c.lines_up-choices.ensures.few said _ _ c.without-lines.ensures _) in
+    let there = try-move going _ _ told in
+    omega (arith, c.ranges.limit.fits, sub_within there _ _ told_2)
 
 pub overflow_add-at : goal.overflow_add-at
 overflow_add-at c =
-    let going = c.loop-trials.invariant _ (advice-choosing _ _ _ _ _ _ (some_left c.requires.0) c.requires.1 c.lines_up-choices.ensures.few (c.lines_up-choices.ensures.lines _ (agree_same _ _)) _ _ c.without-lines.ensures _) in
-    let there = try-move going _ _ (sym (ap try_outcome c.in-Move.is) ∙ c.next_move.ensures) in
+    let said = c.lines_up-choices.ensures.lines _ (agree_same _ _) in
+    let told = sym (ap try_outcome c.in-Move.is) ∙ c.next_move.ensures in
+    let going = c.loop-trials.invariant _ (advice-choosing _ _ _ _ _ _ (some_left c.requires.0) c.requires.1 c.lines_up-choices.ensures.few said _ _ c.without-lines.ensures _) in
+    let there = try-move going _ _ told in
     omega (arith, there.found.listed, c.without-lines.ensures.count, c.lines_up-choices.ensures.few)
 
 pub loop-trials-smaller : goal.loop-trials-smaller
 loop-trials-smaller c =
-    let going = c.loop-trials.invariant _ (advice-choosing _ _ _ _ _ _ (some_left c.requires.0) c.requires.1 c.lines_up-choices.ensures.few (c.lines_up-choices.ensures.lines _ (agree_same _ _)) _ _ c.without-lines.ensures _) in
-    let there = try-move going _ _ (sym (ap try_outcome c.in-Move.is) ∙ c.next_move.ensures) in
+    let said = c.lines_up-choices.ensures.lines _ (agree_same _ _) in
+    let told = sym (ap try_outcome c.in-Move.is) ∙ c.next_move.ensures in
+    let going = c.loop-trials.invariant _ (advice-choosing _ _ _ _ _ _ (some_left c.requires.0) c.requires.1 c.lines_up-choices.ensures.few said _ _ c.without-lines.ensures _) in
+    let there = try-move going _ _ told in
     there.fewer-own
 
 -- whatever walk it is that tries the move
 pub loop-trials-preserved : goal.loop-trials-preserved
 unfolding line_at
 loop-trials-preserved c = λ w g.
-    let there = try-move (c.loop-trials.invariant w g) _ _ (sym (ap try_outcome c.in-Move.is) ∙ c.next_move.ensures) in
-    sub-on there _ _ (sym (ap (verdict_outcome _) c.in-No.is) ∙ c.dynamic_from-sub.ensures _ (move-agree (agree_same _ _) _ _ c.without-lines.result c.in-Move.m c.placed.ensures refl)) _ refl
+    let told = sym (ap try_outcome c.in-Move.is) ∙ c.next_move.ensures in
+    let told_2 = sym (ap (verdict_outcome _) c.in-No.is) ∙ c.dynamic_from-sub.ensures _ (move-agree (agree_same _ _) _ _ c.without-lines.result c.in-Move.m c.placed.ensures refl) in
+    let there = try-move (c.loop-trials.invariant w g) _ _ told in
+    sub-on there _ _ told_2 _ refl

@@ -1,7 +1,7 @@
 -- The sets of at most t people, in ascending number, a plan walk each.
 use mathlib.Core.Path.{refl, sym, ap, ◌∙◌, subst}
 use mathlib.Core.Option.{none}
-use Prim.Native.Nat.{ℕ, ◌^◌}
+use Prim.Native.Nat.{ℕ, ◌^◌, ◌<◌}
 use native.Mathlib.Omega.{arith}
 use native.Mathlib.Nat.{lt_of_lt_of_le}
 use lib.Pow.{pow_pos, pow_mono}
@@ -35,46 +35,73 @@ overflow_sub-limit c = omega (arith, (c.loop-trials.invariant _ (agree_same _ _)
 
 pub returns-in-Limit : goal.returns-in-Limit
 returns-in-Limit c = λ q a.
-    sweep-limit (c.loop-trials.invariant q (agree_left _ _ c.joined_steps-looked.ensures a)) (lacks-limit _ _ _ (sym (ap (plan_ended _ _) c.in-Limit.is) ∙ ((c.plan_walk-walked.ensures.others q (agree_right _ _ c.joined_steps-looked.ensures a) _ ((same_self _ _ (lt_of_lt_of_le (sweep-known ((c.loop-trials.invariant _ (agree_left _ _ c.joined_steps-looked.ensures (agree_same _ _))))) (pow_mono c.requires)))))).1))
+    let was = c.loop-trials.invariant q (agree_left _ _ c.joined_steps-looked.ensures a) in
+    let was_2 = c.loop-trials.invariant _ (agree_left _ _ c.joined_steps-looked.ensures (agree_same _ _)) in
+    let said = c.plan_walk-walked.ensures.others q (agree_right _ _ c.joined_steps-looked.ensures a) _ (same_self _ _ (lt_of_lt_of_le (sweep-known was_2) (pow_mono c.requires))) in
+    sweep-limit was (lacks-limit _ _ _ (sym (ap (plan_ended _ _) c.in-Limit.is) ∙ said.1))
 
 pub overflow_add-result : goal.overflow_add-result
 overflow_add-result c =
-    omega (arith, c.ranges.limit.fits, sweep-beats ((c.loop-trials.invariant _ (agree_left _ _ c.joined_steps-looked.ensures (agree_same _ _)))) _ _ ((lacks-none _ _ _ _ (sym (ap (plan_ended _ _) c.in-No.is) ∙ ((c.plan_walk-walked.ensures.others _ (agree_right _ _ c.joined_steps-looked.ensures (agree_same _ _)) _ ((same_self _ _ (lt_of_lt_of_le (sweep-known ((c.loop-trials.invariant _ (agree_left _ _ c.joined_steps-looked.ensures (agree_same _ _))))) (pow_mono c.requires)))))).1))))
+    let was = c.loop-trials.invariant _ (agree_left _ _ c.joined_steps-looked.ensures (agree_same _ _)) in
+    let said = c.plan_walk-walked.ensures.others _ (agree_right _ _ c.joined_steps-looked.ensures (agree_same _ _)) _ (same_self _ _ (lt_of_lt_of_le (sweep-known was) (pow_mono c.requires))) in
+    let told = sym (ap (plan_ended _ _) c.in-No.is) ∙ said.1 in
+    omega (arith, c.ranges.limit.fits, sweep-beats was _ _ (lacks-none _ _ _ _ told))
 
 pub returns-in-No : goal.returns-in-No
-returns-in-No c = λ q a. sweep-beaten (c.loop-trials.invariant q (agree_left _ _ c.joined_steps-looked.ensures a)) _ _ ((lacks-none _ _ _ _ (sym (ap (plan_ended _ _) c.in-No.is) ∙ ((c.plan_walk-walked.ensures.others q (agree_right _ _ c.joined_steps-looked.ensures a) _ ((same_self _ _ (lt_of_lt_of_le (sweep-known ((c.loop-trials.invariant _ (agree_left _ _ c.joined_steps-looked.ensures (agree_same _ _))))) (pow_mono c.requires)))))).1)))
+returns-in-No c = λ q a.
+    let was = c.loop-trials.invariant q (agree_left _ _ c.joined_steps-looked.ensures a) in
+    let was_2 = c.loop-trials.invariant _ (agree_left _ _ c.joined_steps-looked.ensures (agree_same _ _)) in
+    let said = c.plan_walk-walked.ensures.others q (agree_right _ _ c.joined_steps-looked.ensures a) _ (same_self _ _ (lt_of_lt_of_le (sweep-known was_2) (pow_mono c.requires))) in
+    sweep-beaten was _ _ (lacks-none _ _ _ _ (sym (ap (plan_ended _ _) c.in-No.is) ∙ said.1))
 
 pub overflow_sub-limit-in-Yes : goal.overflow_sub-limit-in-Yes
-overflow_sub-limit-in-Yes c = omega (arith, ((c.loop-trials.invariant _ (agree_left _ _ c.joined_steps-looked.ensures (agree_same _ _)))).enough)
+overflow_sub-limit-in-Yes c = omega (arith, (c.loop-trials.invariant _ (agree_left _ _ c.joined_steps-looked.ensures (agree_same _ _))).enough)
 
 pub leap_from-requires : goal.leap_from-requires
-leap_from-requires c = (c.requires, sweep-known ((c.loop-trials.invariant _ (agree_left _ _ c.joined_steps-looked.ensures (agree_same _ _)))), c.plan_walk-walked.ensures)
+leap_from-requires c =
+    let was = c.loop-trials.invariant _ (agree_left _ _ c.joined_steps-looked.ensures (agree_same _ _)) in
+    (c.requires, sweep-known was, c.plan_walk-walked.ensures)
 
 pub returns-then-limit-all : goal.returns-then-limit-all
 returns-then-limit-all c = λ q a.
-    let l = (let a = c.args in subst (Leaps a.board.now a.people a.t (number c.loop-trials.set) a.left a.p) c.in-Over.is c.leap_from.ensures) in
-    leap-limit ((c.loop-trials.invariant _ (agree_left _ _ c.joined_steps-looked.ensures (agree_same _ _)))) c.in-Over.below _ c.in-Over.sum l.within l.multiple.1 l.summed l.room c.if-limit-all.true
+    let was = c.loop-trials.invariant _ (agree_left _ _ c.joined_steps-looked.ensures (agree_same _ _)) in
+    let leapt = subst (Leaps c.args.board.now c.args.people c.args.t (number c.loop-trials.set) c.args.left c.args.p) c.in-Over.is c.leap_from.ensures in
+    leap-limit was c.in-Over.below _ c.in-Over.sum leapt.within leapt.multiple.1 leapt.summed leapt.room c.if-limit-all.true
     ∙ ap (λ (z : Filled). cut c.args.limit (static (board_arena c.args.board.now c.args.people) c.args.t c.args.left z)) (sym (agree-everywhere _ q a))
 
 pub returns-then-below-people : goal.returns-then-below-people
 returns-then-below-people c = λ q a.
-    let l = (let a = c.args in subst (Leaps a.board.now a.people a.t (number c.loop-trials.set) a.left a.p) c.in-Over.is c.leap_from.ensures) in
+    let was = c.loop-trials.invariant _ (agree_left _ _ c.joined_steps-looked.ensures (agree_same _ _)) in
+    let leapt = subst (Leaps c.args.board.now c.args.people c.args.t (number c.loop-trials.set) c.args.left c.args.p) c.in-Over.is c.leap_from.ensures in
     let last = ap (λ (k : ℕ). 2 ^ k) c.if-below-people.true in
-    leap-end ((c.loop-trials.invariant _ (agree_left _ _ c.joined_steps-looked.ensures (agree_same _ _)))) c.in-Over.below _ c.in-Over.sum l.within l.multiple.1 l.summed c.ranges.limit.fits (omega (arith, c.if-limit-all.false)) (omega (arith, last))
+    leap-end was c.in-Over.below _ c.in-Over.sum leapt.within leapt.multiple.1 leapt.summed c.ranges.limit.fits (omega (arith, c.if-limit-all.false)) (omega (arith, last))
     ∙ ap (λ (z : Filled). cut c.args.limit (static (board_arena c.args.board.now c.args.people) c.args.t c.args.left z)) (sym (agree-everywhere _ q a))
 
 pub loop-trials-smaller-in-Over : goal.loop-trials-smaller-in-Over
-loop-trials-smaller-in-Over c = omega (arith, (c.with-set.ensures ∙ with-joined _ _ _ c.requires ((omega (arith, ((let a = c.args in subst (Leaps a.board.now a.people a.t (number c.loop-trials.set) a.left a.p) c.in-Over.is c.leap_from.ensures)).within, c.if-below-people.false))) (sweep-known (((c.loop-trials.invariant _ (agree_left _ _ c.joined_steps-looked.ensures (agree_same _ _)))))) (((let a = c.args in subst (Leaps a.board.now a.people a.t (number c.loop-trials.set) a.left a.p) c.in-Over.is c.leap_from.ensures)).free ((omega (arith, ((let a = c.args in subst (Leaps a.board.now a.people a.t (number c.loop-trials.set) a.left a.p) c.in-Over.is c.leap_from.ensures)).within, c.if-below-people.false))))), (joined-lt _ _ _ ((omega (arith, ((let a = c.args in subst (Leaps a.board.now a.people a.t (number c.loop-trials.set) a.left a.p) c.in-Over.is c.leap_from.ensures)).within, c.if-below-people.false))) (sweep-known (((c.loop-trials.invariant _ (agree_left _ _ c.joined_steps-looked.ensures (agree_same _ _)))))) (((let a = c.args in subst (Leaps a.board.now a.people a.t (number c.loop-trials.set) a.left a.p) c.in-Over.is c.leap_from.ensures)).free ((omega (arith, ((let a = c.args in subst (Leaps a.board.now a.people a.t (number c.loop-trials.set) a.left a.p) c.in-Over.is c.leap_from.ensures)).within, c.if-below-people.false))))), pow_pos c.in-Over.below)
+loop-trials-smaller-in-Over c =
+    let was = c.loop-trials.invariant _ (agree_left _ _ c.joined_steps-looked.ensures (agree_same _ _)) in
+    let leapt = subst (Leaps c.args.board.now c.args.people c.args.t (number c.loop-trials.set) c.args.left c.args.p) c.in-Over.is c.leap_from.ensures in
+    let below : c.in-Over.below < c.args.people = omega (arith, leapt.within, c.if-below-people.false) in
+    let joined = c.with-set.ensures ∙ with-joined _ _ _ c.requires below (sweep-known was) (leapt.free below) in
+    let fits = joined-lt _ _ _ below (sweep-known was) (leapt.free below) in
+    omega (arith, joined, fits, pow_pos c.in-Over.below)
 
 pub loop-trials-preserved-in-Over : goal.loop-trials-preserved-in-Over
 loop-trials-preserved-in-Over c = λ q a.
-    let l = (let a = c.args in subst (Leaps a.board.now a.people a.t (number c.loop-trials.set) a.left a.p) c.in-Over.is c.leap_from.ensures) in
-    rw ((c.with-set.ensures ∙ with-joined _ _ _ c.requires ((omega (arith, ((let a = c.args in subst (Leaps a.board.now a.people a.t (number c.loop-trials.set) a.left a.p) c.in-Over.is c.leap_from.ensures)).within, c.if-below-people.false))) (sweep-known (((c.loop-trials.invariant _ (agree_left _ _ c.joined_steps-looked.ensures (agree_same _ _)))))) (((let a = c.args in subst (Leaps a.board.now a.people a.t (number c.loop-trials.set) a.left a.p) c.in-Over.is c.leap_from.ensures)).free ((omega (arith, ((let a = c.args in subst (Leaps a.board.now a.people a.t (number c.loop-trials.set) a.left a.p) c.in-Over.is c.leap_from.ensures)).within, c.if-below-people.false))))), agree-everywhere _ q a)
-    (leap-on ((c.loop-trials.invariant _ (agree_left _ _ c.joined_steps-looked.ensures (agree_same _ _)))) c.in-Over.below _ c.in-Over.sum l.within l.multiple.1 l.summed c.ranges.limit.fits (omega (arith, c.if-limit-all.false)) ((joined-lt _ _ _ ((omega (arith, ((let a = c.args in subst (Leaps a.board.now a.people a.t (number c.loop-trials.set) a.left a.p) c.in-Over.is c.leap_from.ensures)).within, c.if-below-people.false))) (sweep-known (((c.loop-trials.invariant _ (agree_left _ _ c.joined_steps-looked.ensures (agree_same _ _)))))) (((let a = c.args in subst (Leaps a.board.now a.people a.t (number c.loop-trials.set) a.left a.p) c.in-Over.is c.leap_from.ensures)).free ((omega (arith, ((let a = c.args in subst (Leaps a.board.now a.people a.t (number c.loop-trials.set) a.left a.p) c.in-Over.is c.leap_from.ensures)).within, c.if-below-people.false)))))) l.room)
+    let was = c.loop-trials.invariant _ (agree_left _ _ c.joined_steps-looked.ensures (agree_same _ _)) in
+    let leapt = subst (Leaps c.args.board.now c.args.people c.args.t (number c.loop-trials.set) c.args.left c.args.p) c.in-Over.is c.leap_from.ensures in
+    let below : c.in-Over.below < c.args.people = omega (arith, leapt.within, c.if-below-people.false) in
+    let joined = c.with-set.ensures ∙ with-joined _ _ _ c.requires below (sweep-known was) (leapt.free below) in
+    let fits = joined-lt _ _ _ below (sweep-known was) (leapt.free below) in
+    rw (joined, agree-everywhere _ q a)
+    (leap-on was c.in-Over.below _ c.in-Over.sum leapt.within leapt.multiple.1 leapt.summed c.ranges.limit.fits (omega (arith, c.if-limit-all.false)) fits leapt.room)
 
 pub overflow_add-used : goal.overflow_add-used
 overflow_add-used c =
-    omega (arith, c.ranges.limit.fits, sweep-within ((c.loop-trials.invariant _ (agree_left _ _ c.joined_steps-looked.ensures (agree_same _ _)))) _ ((lacks-some _ _ _ _ _ (sym (ap (plan_ended _ _) c.in-Yes.is) ∙ ((c.plan_walk-walked.ensures.others _ (agree_right _ _ c.joined_steps-looked.ensures (agree_same _ _)) _ ((same_self _ _ (lt_of_lt_of_le (sweep-known ((c.loop-trials.invariant _ (agree_left _ _ c.joined_steps-looked.ensures (agree_same _ _))))) (pow_mono c.requires)))))).1))))
+    let was = c.loop-trials.invariant _ (agree_left _ _ c.joined_steps-looked.ensures (agree_same _ _)) in
+    let said = c.plan_walk-walked.ensures.others _ (agree_right _ _ c.joined_steps-looked.ensures (agree_same _ _)) _ (same_self _ _ (lt_of_lt_of_le (sweep-known was) (pow_mono c.requires))) in
+    let told = sym (ap (plan_ended _ _) c.in-Yes.is) ∙ said.1 in
+    omega (arith, c.ranges.limit.fits, sweep-within was _ (lacks-some _ _ _ _ _ told))
 
 pub loop-trials-smaller : goal.loop-trials-smaller
 loop-trials-smaller c =
@@ -82,8 +109,17 @@ loop-trials-smaller c =
     omega (arith, sweep-known s, sweep-higher s _ (next-some _ _ _ _ c.requires c.in-Set.is (rw (nobody-shown c.none.ensures) at c.next.ensures)))
 
 pub loop-trials-preserved : goal.loop-trials-preserved
-loop-trials-preserved c = λ q a. sweep-on (c.loop-trials.invariant q (agree_left _ _ c.joined_steps-looked.ensures a)) _ ((lacks-some _ _ _ _ _ (sym (ap (plan_ended _ _) c.in-Yes.is) ∙ ((c.plan_walk-walked.ensures.others q (agree_right _ _ c.joined_steps-looked.ensures a) _ ((same_self _ _ (lt_of_lt_of_le (sweep-known ((c.loop-trials.invariant _ (agree_left _ _ c.joined_steps-looked.ensures (agree_same _ _))))) (pow_mono c.requires)))))).1))) _ (next-some _ _ _ _ c.requires c.in-Set.is (rw (nobody-shown c.none.ensures) at c.next.ensures))
+loop-trials-preserved c = λ q a.
+    let was = c.loop-trials.invariant q (agree_left _ _ c.joined_steps-looked.ensures a) in
+    let was_2 = c.loop-trials.invariant _ (agree_left _ _ c.joined_steps-looked.ensures (agree_same _ _)) in
+    let larger = next-some _ _ _ _ c.requires c.in-Set.is (rw (nobody-shown c.none.ensures) at c.next.ensures) in
+    let said = c.plan_walk-walked.ensures.others q (agree_right _ _ c.joined_steps-looked.ensures a) _ (same_self _ _ (lt_of_lt_of_le (sweep-known was_2) (pow_mono c.requires))) in
+    sweep-on was _ (lacks-some _ _ _ _ _ (sym (ap (plan_ended _ _) c.in-Yes.is) ∙ said.1)) _ larger
 
 pub returns-in-Nothing : goal.returns-in-Nothing
 returns-in-Nothing c = λ q a.
-    sweep-end (c.loop-trials.invariant q (agree_left _ _ c.joined_steps-looked.ensures a)) _ ((lacks-some _ _ _ _ _ (sym (ap (plan_ended _ _) c.in-Yes.is) ∙ ((c.plan_walk-walked.ensures.others q (agree_right _ _ c.joined_steps-looked.ensures a) _ ((same_self _ _ (lt_of_lt_of_le (sweep-known ((c.loop-trials.invariant _ (agree_left _ _ c.joined_steps-looked.ensures (agree_same _ _))))) (pow_mono c.requires)))))).1))) (next-none _ _ _ _ c.requires c.in-Nothing.is (rw (nobody-shown c.none.ensures) at c.next.ensures))
+    let was = c.loop-trials.invariant q (agree_left _ _ c.joined_steps-looked.ensures a) in
+    let was_2 = c.loop-trials.invariant _ (agree_left _ _ c.joined_steps-looked.ensures (agree_same _ _)) in
+    let said = c.plan_walk-walked.ensures.others q (agree_right _ _ c.joined_steps-looked.ensures a) _ (same_self _ _ (lt_of_lt_of_le (sweep-known was_2) (pow_mono c.requires))) in
+    let told = sym (ap (plan_ended _ _) c.in-Yes.is) ∙ said.1 in
+    sweep-end was _ (lacks-some _ _ _ _ _ told) (next-none _ _ _ _ c.requires c.in-Nothing.is (rw (nobody-shown c.none.ensures) at c.next.ensures))
