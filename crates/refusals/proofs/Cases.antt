@@ -12,7 +12,7 @@ use Rattle.cases.specs.declared.Counts.{Counts}
 use Rattle.cases.specs.declared.Case.{Case}
 use Rattle.cases.specs.Case.{most_people, most_steps, most_roles, most_tables, most_rules, zero_step, zero_rule, entry, SameBelow}
 use Rattle.cases.proofs.Counted.{entry-same, held_same, for-same}
-use Rattle.refusals.specs.declared.Judged.TheVariants.{Good, Refused}
+use Rattle.refusals.specs.Refusals.{Good, Refused}
 use Rattle.refusals.specs.Refusals.{refusal, judged_by, only_check, entry_check}
 use Rattle.refusals.specs.Offsets.{rows_in, person_place, step_place, row_place, rule_place}
 use Rattle.refusals.specs.CaseChecks.{too_many, Limited, bad_rule, step_entry, row_entry, rule_entry, bad_person, bad_roles, bad_order, bad_row, counts_check, entry_checks, case_checks, judged_case}

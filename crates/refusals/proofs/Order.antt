@@ -7,8 +7,8 @@ use Prim.Native.Nat.{ℕ}
 use native.Mathlib.Omega.{arith}
 use Rattle.sets.specs.Lists.{◌∈◌}
 use Rattle.refusals.specs.declared.Refusal.{Refusal}
-use Rattle.refusals.specs.declared.Judged.{Judged}
-use Rattle.refusals.specs.declared.Judged.TheVariants.{Good, Refused}
+use Rattle.refusals.specs.Refusals.{Judged}
+use Rattle.refusals.specs.Refusals.{Good, Refused}
 use Rattle.refusals.specs.Refusals.{Check, judged_by, or_else}
 
 -- nothing is both good and refused

@@ -10,7 +10,7 @@ use borrow.Author.Tests.{ltb-true}
 use lib.Dec.{ltb}
 use Rattle.sets.proofs.Lists.{and-true}
 use Rattle.refusals.specs.declared.Refusal.{Refusal}
-use Rattle.refusals.specs.declared.Judged.TheVariants.{Good, Refused}
+use Rattle.refusals.specs.Refusals.{Good, Refused}
 use Rattle.refusals.specs.Refusals.{Check, refusal, judged_by, only_check, entry_check, refusal_at, found_first}
 use Rattle.refusals.specs.Table.{Row, whole, Earliest, entries, Meets, Exactly}
 use Rattle.refusals.proofs.Search.{found_some, some-found}

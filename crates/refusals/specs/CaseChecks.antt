@@ -9,7 +9,7 @@ use Rattle.cases.specs.declared.StepEntry.{StepEntry}
 use Rattle.cases.specs.declared.Rule.{Rule}
 use Rattle.cases.specs.declared.Case.{Case}
 use Rattle.cases.specs.Case.{most_people, most_steps, most_roles, most_tables, most_rules, zero_step, zero_rule, entry, roles_held, roles_for}
-use Rattle.refusals.specs.declared.Judged.{Judged}
+use Rattle.refusals.specs.Refusals.{Judged}
 use Rattle.refusals.specs.Refusals.{Check, judged_by, only_check, entry_check}
 use Rattle.refusals.specs.Offsets.{rows_in, person_place, step_place, row_place, rule_place}
 

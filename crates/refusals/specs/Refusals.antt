@@ -1,14 +1,22 @@
 -- Refusals, and the one order in which they are given. Lowest number first; under one number the earliest entry.
-use Rattle.std.specs.Prelude.{Bool, List, [], ◌∷◌, ℕ}
+use Rattle.std.specs.Prelude.{⊤, Bool, List, [], ◌∷◌, ℕ, Result, Ok, Err}
 use Rattle.std.proofs.Math.Option.{Option, none, some}
 use Rattle.sets.specs.Lists.{only_if, head, keep, upto}
 use Rattle.refusals.specs.declared.Refusal.{Refusal}
-use Rattle.refusals.specs.declared.Judged.{Judged}
-use Rattle.refusals.specs.declared.Judged.TheVariants.{Good, Refused}
 
 -- a refusal of a number, at a place
 abbrev pub refusal : ℕ → ℕ → Refusal
 refusal n place = record { number = n; place = place }
+
+-- What judging gives: nothing is wrong, or the one refusal.
+abbrev pub Judged : Type 0
+Judged = Result ⊤ Refusal
+
+abbrev pub Good : Judged
+Good = Ok tt
+
+abbrev pub Refused : Refusal → Judged
+Refused r = Err r
 
 -- A check under one number gives its refusal, or none where the number is not met.
 abbrev pub Check : Type 0
@@ -22,8 +30,8 @@ judged_by (some r ∷ checks) = Refused r
 
 -- an earlier judgement, or where it is good a later one
 abbrev pub or_else : Judged → Judged → Judged
-or_else Good later = later
-or_else (Refused r) later = Refused r
+or_else (Ok nothing) later = later
+or_else (Err r) later = Refused r
 
 -- a check of the whole, placed at 0
 abbrev pub only_check : ℕ → Bool → Check

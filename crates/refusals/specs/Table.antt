@@ -7,8 +7,8 @@ use Rattle.cases.specs.declared.StepEntry.{StepEntry}
 use Rattle.cases.specs.declared.Rule.{Rule}
 use Rattle.cases.specs.declared.Case.{Case}
 use Rattle.cases.specs.Case.{most_people, most_steps, most_roles, most_tables, most_rules, roles_held, roles_for}
-use Rattle.refusals.specs.declared.Judged.{Judged}
-use Rattle.refusals.specs.declared.Judged.TheVariants.{Good, Refused}
+use Rattle.refusals.specs.Refusals.{Judged}
+use Rattle.refusals.specs.Refusals.{Good, Refused}
 use Rattle.refusals.specs.Refusals.{refusal}
 use Rattle.refusals.specs.Offsets.{rows_in, person_place, step_place, row_place, rule_place}
 use Rattle.refusals.specs.CaseChecks.{step_entry, row_entry, rule_entry}

@@ -6,42 +6,32 @@ ghost use Rattle.std.specs.Prelude.{◌≡◌, [], ◌∷◌};
 ghost use Rattle.sets.specs.Lists.{only_if};
 ghost use Rattle.refusals.specs.Refusals.{refusal, judged_by, or_else};
 
-// A refusal: its number in the scope's table, and its place.
+// A refusal: its number in the scope's table, and its place. It is what a judgement errs with: a judgement is `Ok` where nothing is wrong. The number is
+// no enum: the definitions write it as `refusal 7 place`, theorem `file-exactly` speaks of every number, and the programs print it.
 #[derive(Clone, Copy)]
 pub struct Refusal {
     pub number: u8,
     pub place: usize,
 }
 
-// What judging gives: nothing is wrong, or the one refusal.
-#[derive(Clone, Copy)]
-pub enum Judged {
-    Good,
-    Refused(Refusal),
+// A single check: the refusal where the number is met.
+pub fn refused_if(met: bool, number: u8, place: usize) -> Result<(), Refusal>
+    ensures { result ≡ judged_by (only_if met (refusal number place) ∷ []) }
+{
+    if met {
+        Err(Refusal {
+            number: number,
+            place: place,
+        })
+    } else {
+        Ok(())
+    }
 }
 
-impl Judged {
-    // This judgement, or where it is good the later one.
-    pub fn or_else(self, later: Judged) -> Judged
-        ensures { result ≡ or_else self later }
-    {
-        match self {
-            Judged::Good => later,
-            Judged::Refused(r) => Judged::Refused(r),
-        }
-    }
-
-    // A single check: the refusal where the number is met.
-    pub fn refused_if(met: bool, number: u8, place: usize) -> Judged
-        ensures { result ≡ judged_by (only_if met (refusal number place) ∷ []) }
-    {
-        if met {
-            Judged::Refused(Refusal {
-                number: number,
-                place: place,
-            })
-        } else {
-            Judged::Good
-        }
-    }
+// An earlier judgement, or where it is good a later one.
+pub fn or_else(earlier: Result<(), Refusal>, later: Result<(), Refusal>) -> Result<(), Refusal>
+    ensures { result ≡ or_else earlier later }
+{
+    earlier?;
+    later
 }

@@ -1,13 +1,7 @@
 -- The record that stores a set of people. Only this file and src/ know how.
-use Rattle.std.proofs.Math.Option.{Option, none, some}
-use Rattle.std.specs.Prelude.{List, ℕ, ◌+◌, ◌*◌, ◌/◌, ◌%◌, ◌^◌, get_or}
+use Rattle.std.proofs.Math.Option as math
+use Rattle.std.specs.Prelude.{List, Option, None, Some, ℕ, ◌+◌, ◌*◌, ◌/◌, ◌%◌, ◌^◌, get_or}
 use Rattle.sets.specs.declared.People.{People}
-use Rattle.sets.specs.declared.Wide.{Wide}
-use Rattle.sets.specs.declared.Wide.TheVariants as wide
-use Rattle.sets.specs.declared.Next.{Next}
-use Rattle.sets.specs.declared.Next.TheVariants as next
-use Rattle.sets.specs.declared.Lowest.{Lowest}
-use Rattle.sets.specs.declared.Lowest.TheVariants as lowest
 
 -- how many people a record has room for
 abbrev pub width : ℕ
@@ -30,14 +24,14 @@ unfoldable pub set_at : List ℕ → ℕ → ℕ
 set_at words i = get_or words i 0
 
 -- what `next` answers
-unfoldable pub next_number : Next → Option ℕ
-next_number (next.Set s) = some (number s)
-next_number next.Nothing = none
+unfoldable pub next_number : Option People → math.Option ℕ
+next_number (Some s) = math.some (number s)
+next_number None = math.none
 
 -- what `lowest` answers
-abbrev pub lowest_number : Lowest → Option ℕ
-lowest_number (lowest.Person v) = some v
-lowest_number lowest.Nobody = none
+abbrev pub lowest_number : Option ℕ → math.Option ℕ
+lowest_number (Some v) = math.some v
+lowest_number None = math.none
 
 -- ---- A set as two words of 64 bits, the low one first
 
@@ -52,6 +46,6 @@ abbrev pub from_words : ℕ → ℕ → ℕ
 from_words low high = high * 2 ^ 64 + low
 
 -- what `from_words` answers: nothing where some member is past the width
-abbrev pub wide_number : Wide → Option ℕ
-wide_number (wide.Set s) = some (number s)
-wide_number wide.Past = none
+abbrev pub wide_number : Option People → math.Option ℕ
+wide_number (Some s) = math.some (number s)
+wide_number None = math.none

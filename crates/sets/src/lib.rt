@@ -15,30 +15,9 @@ ghost use Rattle.sets.specs.Stored.{width, number, stored, no_people, set_at, ne
 pub use small::{holds, lowest_in, past, share, shared, size, with, within, without};
 
 // A set of people.
-#[derive(Clone, Copy)]
+#[derive(Clone, Copy, PartialEq, Eq)]
 pub struct People {
     bits: u32,
-}
-
-// The set after another one, in a list of sets.
-#[derive(Clone, Copy)]
-pub enum Next {
-    Set(People),
-    Nothing,
-}
-
-// The set that two words write, where it has no member past the width.
-#[derive(Clone, Copy)]
-pub enum Wide {
-    Set(People),
-    Past,
-}
-
-// The lowest member of a set.
-#[derive(Clone, Copy)]
-pub enum Lowest {
-    Person(u8),
-    Nobody,
 }
 
 impl People {
@@ -78,16 +57,16 @@ impl People {
     }
 
     // The set that two words of 64 bits write, the low one first; or that it has a member past the width.
-    pub fn from_words(low: u64, high: u64) -> Wide
+    pub fn from_words(low: u64, high: u64) -> Option<People>
         ensures { wide_number result ≡ only_if (ltb (from_words low high) (2 ^ width)) (from_words low high) }
     {
         if high != 0 {
-            return Wide::Past;
+            return None;
         }
         if 4294967296 <= low {
-            return Wide::Past;
+            return None;
         }
-        Wide::Set(People { bits: low as u32 })
+        Some(People { bits: low as u32 })
     }
 
     // The low word of the two that write the set.
@@ -219,14 +198,14 @@ impl People {
     }
 
     // The member with the lowest number.
-    pub fn lowest(self) -> Lowest
+    pub fn lowest(self) -> Option<u8>
         ensures { lowest_number result ≡ lowest width (number self) }
     {
         let bits = self.bits;
         if bits == 0 {
-            Lowest::Nobody
+            None
         } else {
-            Lowest::Person(u32::trailing_zeros(bits) as u8)
+            Some(u32::trailing_zeros(bits) as u8)
         }
     }
 
@@ -257,17 +236,17 @@ impl People {
 
     // The set after this one among the sets of at most `most` of the first n people that contain `held`, in ascending number. Nothing where
     // this one is the last of them, or is none of them. Members of `held` past the first n do not count.
-    pub fn next(self, n: u8, most: u32, held: People) -> Next
+    pub fn next(self, n: u8, most: u32, held: People) -> Option<People>
         ensures { next_number result ≡ next_set (min n width) most (number held) (number self) }
     {
         let all = People::everybody(n);
         let kept = held.common(all);
         if !self.listed(most, kept, all) {
-            return Next::Nothing;
+            return None;
         }
         match self.place(most, kept) {
-            Lowest::Person(v) => self.counted_up(v, kept, all),
-            Lowest::Nobody => Next::Nothing,
+            Some(v) => self.counted_up(v, kept, all),
+            None => None,
         }
     }
 
@@ -286,33 +265,33 @@ impl People {
 
     // The person to count up from for the next set: person 0 where one more may join, else the lowest who is not in `held`. Nobody where nobody
     // may join and nobody may go.
-    fn place(self, most: u32, held: People) -> Lowest
+    fn place(self, most: u32, held: People) -> Option<u8>
         ensures { lowest_number result ≡ pick (ltb (size width (number self)) most) (some 0) (lowest width (difference width (number self) (number held))) }
     {
         if self.size() < most {
-            Lowest::Person(0)
+            Some(0)
         } else {
             self.difference(held).lowest()
         }
     }
 
     // The set whose number is 2^v more, with everybody in `held` besides. Nothing where that number is past the one of `last`.
-    fn counted_up(self, v: u8, held: People, last: People) -> Next
+    fn counted_up(self, v: u8, held: People, last: People) -> Option<People>
         ensures { next_number result ≡ only_if (leb (number self + 2 ^ v) (number last)) (joined width (number self + 2 ^ v) (number held)) }
     {
         let from = self.bits;
         let to = last.bits;
         if People::WIDTH <= v {
-            return Next::Nothing;
+            return None;
         }
         if to < from {
-            return Next::Nothing;
+            return None;
         }
         let step = 1 << v;
         if to - from < step {
-            return Next::Nothing;
+            return None;
         }
-        Next::Set(People {
+        Some(People {
             bits: (from + step) | held.bits,
         })
     }

@@ -21,11 +21,11 @@ pub returns-then-not-listed : goal.returns-then-not-listed
 unfolding next_number
 returns-then-not-listed c = next-unlisted (begun c.args.n c.args.held c.args.self c.everybody-all.result c.common-kept.result (omega arith) c.everybody-all.ensures c.common-kept.ensures) _ (sym c.listed.ensures ∙ not-true _ c.if-not-listed.true-raw)
 
-pub returns-in-Person : goal.returns-in-Person
-returns-in-Person c =
+pub returns-in-Some : goal.returns-in-Some
+returns-in-Some c =
     c.counted_up.ensures
-    ∙ next_up (begun c.args.n c.args.held c.args.self c.everybody-all.result c.common-kept.result (omega arith) c.everybody-all.ensures c.common-kept.ensures) _ (sym c.listed.ensures ∙ not-false _ c.if-not-listed.false-raw) _ (sym c.place.ensures ∙ ap lowest_number c.in-Person.is)
+    ∙ next_up (begun c.args.n c.args.held c.args.self c.everybody-all.result c.common-kept.result (omega arith) c.everybody-all.ensures c.common-kept.ensures) _ (sym c.listed.ensures ∙ not-false _ c.if-not-listed.false-raw) _ (sym c.place.ensures ∙ ap lowest_number c.in-Some.is)
 
-pub returns-in-Nobody : goal.returns-in-Nobody
+pub returns-in-None : goal.returns-in-None
 unfolding next_number
-returns-in-Nobody c = next_last (begun c.args.n c.args.held c.args.self c.everybody-all.result c.common-kept.result (omega arith) c.everybody-all.ensures c.common-kept.ensures) _ (sym c.listed.ensures ∙ not-false _ c.if-not-listed.false-raw) (sym c.place.ensures ∙ ap lowest_number c.in-Nobody.is)
+returns-in-None c = next_last (begun c.args.n c.args.held c.args.self c.everybody-all.result c.common-kept.result (omega arith) c.everybody-all.ensures c.common-kept.ensures) _ (sym c.listed.ensures ∙ not-false _ c.if-not-listed.false-raw) (sym c.place.ensures ∙ ap lowest_number c.in-None.is)

@@ -1,5 +1,5 @@
 use Rattle.refusals.specs.Refusals.{judged_by}
-use Rattle.refusals.proofs.Judged.refused_if.Goals as goal
+use Rattle.refusals.proofs.refused_if.Goals as goal
 
 pub returns-then-met : goal.returns-then-met
 unfolding judged_by
