@@ -1,11 +1,13 @@
 // Reading the entries of the parts of a file into the arrays of a case. Past the end of a part they are zero, and reading stops there. It judges nothing.
 #![tactic(auto)]
 
-ghost use Rattle.std.specs.Prelude.{◌≡◌, ◌<◌, ◌≤◌, ◌*◌, length};
-ghost use Rattle.cases.specs.Case.{most_people, most_steps, most_tables, most_rules};
-ghost use Rattle.refusals.specs.Offsets.{total_of};
+ghost use Rattle.std.specs.Prelude.{◌≡◌, ℕ, List, ◌<◌, ◌≤◌, ◌*◌, length, replicate};
+ghost use Rattle.sets.specs.Stored.{no_people};
+ghost use Rattle.cases.specs.Case.{most_people, most_tables, zero_step, zero_rule};
+ghost use Rattle.refusals.specs.Offsets.{person_bytes, step_bytes, row_bytes, rule_bytes, total_of};
 ghost use Rattle.words.specs.Part.{table};
 ghost use Rattle.layout.specs.Layout.{person_in, step_in, row_in, rule_in, case_at};
+ghost use Rattle.entries.specs.Past.{person_past, step_past, row_past, rule_past, two_few, four_few};
 
 use cases::{Case, Counts, Rule, Step, StepEntry};
 use layout::{rules_at, steps_at, tables_at, total};
@@ -17,116 +19,131 @@ pub fn case_at(file: &[u8], n: Counts) -> Case
     requires { total_of n ≤ length file.now }
     ensures { result ≡ case_at file.now n }
 {
-    let a = steps_at(n);
-    let b = tables_at(n);
-    let d = rules_at(n);
-    let e = total(n);
-    let people = read_people(&file[24..a]);
-    let steps = read_steps(&file[a..b]);
-    let rows = read_rows(&file[b..d]);
-    let rules = read_rules(&file[d..e]);
-    Case {
-        counts: n,
-        people: people,
-        steps: steps,
-        rows: rows,
-        rules: rules,
-    }
+    let mut case = Case::empty();
+    case.counts = n;
+    read_entries(&file[24..steps_at(n)], &mut case.people);
+    read_entries(&file[steps_at(n)..tables_at(n)], &mut case.steps);
+    read_entries(&file[tables_at(n)..rules_at(n)], &mut case.rows);
+    read_entries(&file[rules_at(n)..total(n)], &mut case.rules);
+    case
 }
 
-fn read_people(part: &[u8]) -> [u16; Case::PEOPLE]
-    ensures { result ≡ table (person_in part.now) most_people }
+// Reads the entries of a part to the front of an array of zeros.
+fn read_entries<E: Entry>(part: &[u8], entries: &mut [E])
+    requires few { length entries.old ≤ most_tables * most_people }
+    requires zeros { entries.old ≡ replicate (length entries.old) E.zero }
+    ensures { entries.new ≡ table (E.entry_in part.now) (length entries.old) }
 {
-    let mut people = [0u16; Case::PEOPLE];
-    let mut i = 0;
-    while i < Case::PEOPLE {
-        if part.len() <= 2 * i {
-            return people;
+    for (i, entry) in entries.iter_mut().enumerate() {
+        if part.len() <= E::BYTES * i {
+            break;
         }
-        people[i] = word_at(part, 2 * i);
-        i += 1;
+        *entry = E::read(part, i);
     }
-    people
 }
 
-fn read_steps(part: &[u8]) -> [StepEntry; Case::STEPS]
-    ensures { result ≡ table (step_in part.now) most_steps }
-{
-    let none = StepEntry {
-        roles: 0,
-        before: 0,
-        spare: 0,
-    };
-    let mut steps = [none; Case::STEPS];
-    let mut i = 0;
-    while i < Case::STEPS {
-        if part.len() <= 4 * i {
-            return steps;
+// An entry of a part, as the part's bytes write it.
+trait Entry: Copy {
+    // How many bytes an entry has.
+    const BYTES: usize;
+
+    ghost BYTES: { ℕ };
+
+    ghost zero: { Self };
+
+    ghost entry_in: { List ℕ → ℕ → Self };
+
+    // Entry i of a part.
+    fn read(part: &[u8], i: usize) -> Self
+        requires { i < most_tables * most_people }
+        ensures { result ≡ entry_in part.now i };
+
+    ghost few: { BYTES ≤ 4 };
+
+    // Past the end of a part every entry is zero.
+    ghost past: { (part : List ℕ) (i : ℕ) → length part ≤ BYTES * i → entry_in part i ≡ zero };
+}
+
+// A person: the set of roles held.
+impl Entry for u16 {
+    const BYTES: usize = 2;
+
+    ghost BYTES = { person_bytes };
+
+    ghost zero = { 0 };
+
+    ghost entry_in = { person_in };
+
+    ghost few = { two_few };
+
+    ghost past = { person_past };
+
+    fn read(part: &[u8], i: usize) -> u16 {
+        word_at(part, 2 * i)
+    }
+}
+
+impl Entry for StepEntry {
+    const BYTES: usize = 4;
+
+    ghost BYTES = { step_bytes };
+
+    ghost zero = { zero_step };
+
+    ghost entry_in = { step_in };
+
+    ghost few = { four_few };
+
+    ghost past = { step_past };
+
+    fn read(part: &[u8], i: usize) -> StepEntry {
+        StepEntry {
+            roles: word_at(part, 4 * i),
+            before: byte_at(part, 4 * i + 2),
+            spare: byte_at(part, 4 * i + 3),
         }
-        steps[i] = step_at(part, i);
-        i += 1;
-    }
-    steps
-}
-
-fn step_at(part: &[u8], i: usize) -> StepEntry
-    requires { i < most_steps }
-    ensures { result ≡ step_in part.now i }
-{
-    StepEntry {
-        roles: word_at(part, 4 * i),
-        before: byte_at(part, 4 * i + 2),
-        spare: byte_at(part, 4 * i + 3),
     }
 }
 
-fn read_rows(part: &[u8]) -> [People; Case::ROWS]
-    ensures { result ≡ table (row_in part.now) (most_tables * most_people) }
-{
-    let none = People::none();
-    let mut rows = [none; Case::ROWS];
-    let mut i = 0;
-    while i < Case::ROWS {
-        if part.len() <= 4 * i {
-            return rows;
+// A table row: bit v for person v.
+impl Entry for People {
+    const BYTES: usize = 4;
+
+    ghost BYTES = { row_bytes };
+
+    ghost zero = { no_people };
+
+    ghost entry_in = { row_in };
+
+    ghost few = { four_few };
+
+    ghost past = { row_past };
+
+    fn read(part: &[u8], i: usize) -> People {
+        People::from_word(long_at(part, 4 * i))
+    }
+}
+
+impl Entry for Rule {
+    const BYTES: usize = 4;
+
+    ghost BYTES = { rule_bytes };
+
+    ghost zero = { zero_rule };
+
+    ghost entry_in = { rule_in };
+
+    ghost few = { four_few };
+
+    ghost past = { rule_past };
+
+    fn read(part: &[u8], i: usize) -> Rule {
+        let step = Step(byte_at(part, 4 * i + 2));
+        Rule {
+            form: byte_at(part, 4 * i),
+            relation: byte_at(part, 4 * i + 1),
+            step,
+            group: byte_at(part, 4 * i + 3),
         }
-        rows[i] = People::from_word(long_at(part, 4 * i));
-        i += 1;
-    }
-    rows
-}
-
-fn read_rules(part: &[u8]) -> [Rule; Case::RULES]
-    ensures { result ≡ table (rule_in part.now) most_rules }
-{
-    let first = Step(0);
-    let none = Rule {
-        form: 0,
-        relation: 0,
-        step: first,
-        group: 0,
-    };
-    let mut rules = [none; Case::RULES];
-    let mut i = 0;
-    while i < Case::RULES {
-        if part.len() <= 4 * i {
-            return rules;
-        }
-        rules[i] = rule_at(part, i);
-        i += 1;
-    }
-    rules
-}
-
-fn rule_at(part: &[u8], i: usize) -> Rule
-    requires { i < most_rules }
-    ensures { result ≡ rule_in part.now i }
-{
-    let step = Step(byte_at(part, 4 * i + 2));
-    Rule {
-        form: byte_at(part, 4 * i),
-        relation: byte_at(part, 4 * i + 1),
-        step: step,
-        group: byte_at(part, 4 * i + 3),
     }
 }

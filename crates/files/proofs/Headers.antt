@@ -2,9 +2,10 @@
 use mathlib.Core.Path.{◌≡◌, refl, sym, ap, ◌∙◌}
 use mathlib.Core.List.{List, ◌∷◌}
 use Prim.Native.Nat.{ℕ}
+use Rattle.std.specs.Prelude.{Ok, Err}
 use Rattle.refusals.specs.declared.Refusal.{Refusal}
-use Rattle.refusals.specs.declared.Judged.{Judged}
-use Rattle.refusals.specs.declared.Judged.TheVariants.{Good, Refused}
+use Rattle.refusals.specs.Refusals.{Judged}
+use Rattle.refusals.specs.Refusals.{Good, Refused}
 use Rattle.refusals.specs.Refusals.{judged_by, only_check, or_else}
 use Rattle.refusals.specs.CaseChecks.{counts_check, entry_checks, case_checks, judged_case}
 use Rattle.refusals.proofs.Order.{judged-append, good-refused}
@@ -29,8 +30,8 @@ right-header f e =
 
 -- a good file has a right header
 good-first : (j k : Judged) → or_else j k ≡ Good → j ≡ Good
-good-first Good k e = refl
-good-first (Refused r) k e = absurd (good-refused e refl)
+good-first (Ok nothing) k e = refl
+good-first (Err r) k e = absurd (good-refused e refl)
 
 pub good-header : (f : List ℕ) → judged_file f ≡ Good → judged_by (head_checks f) ≡ Good
 good-header f e = good-first _ _ (sym (head_first f) ∙ e)

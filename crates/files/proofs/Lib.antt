@@ -1,5 +1,4 @@
 -- The laws of files, and the theorems: a file is judged exactly by the scope's table; a refused file gives nothing.
-pub mod Lent
 pub mod Headers
 pub mod Exactly
 pub mod Nothing

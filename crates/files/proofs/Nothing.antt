@@ -4,8 +4,8 @@ use mathlib.Core.List.{List}
 use Prim.Native.Nat.{ℕ}
 use Rattle.cases.specs.Case.{empty_case, zeroed}
 use Rattle.refusals.specs.declared.Refusal.{Refusal}
-use Rattle.refusals.specs.declared.Judged.{Judged}
-use Rattle.refusals.specs.declared.Judged.TheVariants.{Good, Refused}
+use Rattle.refusals.specs.Refusals.{Judged}
+use Rattle.refusals.specs.Refusals.{Good, Refused}
 use Rattle.refusals.specs.CaseChecks.{judged_case}
 use Rattle.layout.specs.declared.Part.{Part}
 use Rattle.layout.specs.Layout.{counts_of, case_of, start_of, end_of}

@@ -1,4 +1,4 @@
--- The ways through `read` and `good_part`, over plain values: what each comes to.
+-- The ways through `read` and `part_of`, over plain values: what each comes to.
 use mathlib.Core.Path.{◌≡◌, sym, ap, ◌∙◌}
 use mathlib.Core.List.{List}
 use Prim.Native.Nat.{ℕ, ◌≤◌}
@@ -7,8 +7,8 @@ use lib.ListN.{length}
 use Rattle.cases.specs.declared.Counts.{Counts}
 use Rattle.cases.specs.declared.Case.{Case}
 use Rattle.refusals.specs.declared.Refusal.{Refusal}
-use Rattle.refusals.specs.declared.Judged.{Judged}
-use Rattle.refusals.specs.declared.Judged.TheVariants.{Good, Refused}
+use Rattle.refusals.specs.Refusals.{Judged}
+use Rattle.refusals.specs.Refusals.{Good, Refused}
 use Rattle.refusals.specs.Refusals.{judged_by}
 use Rattle.refusals.specs.Offsets.{total_of}
 use Rattle.refusals.specs.CaseChecks.{judged_case}

@@ -1,6 +1,6 @@
 -- What a file is judged by: 1 to 6 by its header and its length, then 7 to 11 by the case that it holds.
 use Rattle.std.specs.Prelude.{List, ◌++◌, ℕ}
-use Rattle.refusals.specs.declared.Judged.{Judged}
+use Rattle.refusals.specs.Refusals.{Judged}
 use Rattle.refusals.specs.Refusals.{Check, judged_by}
 use Rattle.refusals.specs.CaseChecks.{entry_checks}
 use Rattle.layout.specs.Layout.{case_of}

@@ -1,16 +1,15 @@
 -- What reading a file gives.
-use Rattle.std.specs.Prelude.{List, ℕ}
+use Rattle.std.specs.Prelude.{List, ℕ, Ok, Err}
 use Rattle.cases.specs.Case.{empty_case}
-use Rattle.refusals.specs.declared.Judged.{Judged}
-use Rattle.refusals.specs.declared.Judged.TheVariants.{Good, Refused}
+use Rattle.refusals.specs.Refusals.{Judged}
 use Rattle.layout.specs.Layout.{case_of}
 use Rattle.files.specs.declared.FileRead.{FileRead}
 use Rattle.files.specs.Checks.{judged_file}
 
 -- the first where nothing is refused, else the second
 abbrev pub if_good : {A : Type 0} → Judged → A → A → A
-if_good Good a b = a
-if_good (Refused r) a b = b
+if_good (Ok nothing) a b = a
+if_good (Err r) a b = b
 
 -- The case that a good file holds; a refused file gives its refusal, and the empty case.
 unfoldable pub read_of : List ℕ → FileRead

@@ -16,89 +16,57 @@ use entries::case_at;
 use headers::{counts, judge_header};
 use judging::judge_case;
 use layout::{Part, end, start};
-use refusals::Judged;
+use refusals::Refusal;
 
-// What reading a file gives: how it is judged, and the case that it holds, which is the empty case where it is refused.
+// What reading a file gives: how it is judged, and the case that it holds, which is the empty case where it is refused. No `Result` of the case: the
+// definition `read_of` and the theorems on it speak of the case that a refused read holds.
 #[derive(Clone, Copy)]
 pub struct FileRead {
-    pub judged: Judged,
+    pub judged: Result<(), Refusal>,
     pub held: Case,
 }
 
 // Is the file good? If not, the lowest number of 1 to 11 that it meets, at the earliest entry.
-pub fn judge(file: &[u8]) -> Judged
+pub fn judge(file: &[u8]) -> Result<(), Refusal>
     ensures { result ≡ judged_file file.now }
 {
-    let r = read(file);
-    r.judged
+    read(file).judged
 }
 
 // The case that a file holds, with zero above its counts; or its refusal, with the empty case.
 pub fn read(file: &[u8]) -> FileRead
     ensures { result ≡ read_of file.now }
 {
+    // No case goes through a `Result` of its own here, since a case is a thousand bytes to copy.
     let head = judge_header(file);
-    let Judged::Good = head else {
+    let Ok(()) = head else {
         return refused(head);
     };
     let held = case_at(file, counts(file));
     let judged = judge_case(held);
-    let Judged::Good = judged else {
+    let Ok(()) = judged else {
         return refused(judged);
     };
-    FileRead {
-        judged: judged,
-        held: held,
-    }
+    FileRead { judged, held }
 }
 
-fn refused(judged: Judged) -> FileRead
+fn refused(judged: Result<(), Refusal>) -> FileRead
     ensures { result ≡ refused_read judged }
 {
-    let held = Case::empty();
     FileRead {
-        judged: judged,
-        held: held,
+        judged,
+        held: Case::empty(),
     }
 }
 
-// The people part of a good file, as the caller's own bytes. A refused file gives an empty part; `judge` tells why.
-pub fn people_part(file: &[u8]) -> &[u8]
-    ensures { seen result ≡ part_of (seen file.entry) Part.People }
-{
-    good_part(file, Part::People)
-}
-
-// The steps part, in the same way.
-pub fn steps_part(file: &[u8]) -> &[u8]
-    ensures { seen result ≡ part_of (seen file.entry) Part.Steps }
-{
-    good_part(file, Part::Steps)
-}
-
-// The tables part, in the same way.
-pub fn tables_part(file: &[u8]) -> &[u8]
-    ensures { seen result ≡ part_of (seen file.entry) Part.Tables }
-{
-    good_part(file, Part::Tables)
-}
-
-// The rules part, in the same way.
-pub fn rules_part(file: &[u8]) -> &[u8]
-    ensures { seen result ≡ part_of (seen file.entry) Part.Rules }
-{
-    good_part(file, Part::Rules)
-}
-
-// A part of a file that is judged first.
-fn good_part(file: &[u8], part: Part) -> &[u8]
+// A part of a good file, as the caller's own bytes. A refused file gives an empty part; `judge` tells why.
+pub fn part_of(file: &[u8], part: Part) -> &[u8]
     ensures { seen result ≡ part_of (seen file.entry) part }
 {
-    let judged = judge(file);
-    let Judged::Good = judged else {
-        return no_part(file);
-    };
-    part_at(file, counts(file), part)
+    match judge(file) {
+        Ok(()) => part_at(file, counts(file), part),
+        Err(_) => no_part(file),
+    }
 }
 
 // A part, by counts that the file has room for.

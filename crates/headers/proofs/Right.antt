@@ -9,7 +9,7 @@ use lib.Dec.{eqb}
 use lib.ListN.{length}
 use Rattle.sets.proofs.Lists.{only_if-none}
 use Rattle.cases.specs.declared.Counts.{Counts}
-use Rattle.refusals.specs.declared.Judged.TheVariants.{Good}
+use Rattle.refusals.specs.Refusals.{Good}
 use Rattle.refusals.specs.Refusals.{judged_by}
 use Rattle.refusals.specs.Offsets.{people_at, steps_at, tables_at, rules_at, total_of}
 use Rattle.refusals.specs.CaseChecks.{too_many}

@@ -2,7 +2,7 @@
 #![tactic(auto)]
 
 ghost use Rattle.std.specs.Prelude.{◌≡◌};
-ghost use Rattle.refusals.specs.Refusals.{refusal, judged_by};
+ghost use Rattle.refusals.specs.Refusals.{judged_by};
 ghost use Rattle.words.specs.Word.{word};
 ghost use Rattle.layout.specs.Layout.{counts_of};
 ghost use Rattle.headers.specs.Checks.{misplaced, head_checks};
@@ -10,81 +10,44 @@ ghost use Rattle.headers.specs.Checks.{misplaced, head_checks};
 use cases::Counts;
 use judging::too_many;
 use layout::{rules_at, steps_at, tables_at, total};
-use refusals::{Judged, Refusal};
-use words::{either, word_at};
+use refusals::{Refusal, refused_if};
+use words::word_at;
 
 // The counts that a file states.
 pub fn counts(file: &[u8]) -> Counts
     ensures { result ≡ counts_of file.now }
 {
-    let people = word_at(file, 2);
-    let steps = word_at(file, 4);
-    let roles = word_at(file, 6);
-    let tables = word_at(file, 8);
-    let rules = word_at(file, 10);
     Counts {
-        people: people,
-        steps: steps,
-        roles: roles,
-        tables: tables,
-        rules: rules,
+        people: word_at(file, 2),
+        steps: word_at(file, 4),
+        roles: word_at(file, 6),
+        tables: word_at(file, 8),
+        rules: word_at(file, 10),
     }
 }
 
 // The lowest number of 1 to 6 that a file meets. No offset is computed from counts above their limits.
-pub fn judge_header(file: &[u8]) -> Judged
+pub fn judge_header(file: &[u8]) -> Result<(), Refusal>
     ensures { result ≡ judged_by (head_checks file.now) }
 {
-    if file.len() < 24 {
-        return refused_whole(1);
-    }
-    if word_at(file, 0) != 1 {
-        return refused_whole(2);
-    }
-    if word_at(file, 22) != 0 {
-        return refused_whole(3);
-    }
+    refused_if(file.len() < 24, 1, 0)?;
+    refused_if(word_at(file, 0) != 1, 2, 0)?;
+    refused_if(word_at(file, 22) != 0, 3, 0)?;
     let n = counts(file);
-    if too_many(n) {
-        return refused_whole(4);
-    }
-    if is_misplaced(file, n) {
-        return refused_whole(5);
-    }
-    if file.len() != offset(file, 20) {
-        return refused_whole(6);
-    }
-    Judged::Good
-}
-
-// A refusal of the whole file: its place is 0.
-fn refused_whole(number: u8) -> Judged
-    ensures { result ≡ Judged.Refused (refusal number 0) }
-{
-    let why = Refusal {
-        number: number,
-        place: 0,
-    };
-    Judged::Refused(why)
+    refused_if(too_many(n), 4, 0)?;
+    refused_if(is_misplaced(file, n), 5, 0)?;
+    refused_if(file.len() != offset(file, 20), 6, 0)
 }
 
 // Is an offset or the total not what the counts give?
 fn is_misplaced(file: &[u8], n: Counts) -> bool
     ensures { result ≡ misplaced file.now n }
 {
-    either(
-        offset(file, 12) != 24,
-        either(
-            offset(file, 14) != steps_at(n),
-            either(
-                offset(file, 16) != tables_at(n),
-                either(
-                    offset(file, 18) != rules_at(n),
-                    offset(file, 20) != total(n),
-                ),
-            ),
-        ),
-    )
+    offset(file, 12) != 24
+        || offset(file, 14) != steps_at(n)
+        || offset(file, 16) != tables_at(n)
+        || offset(file, 18) != rules_at(n)
+        || offset(file, 20) != total(n)
 }
 
 // A header number as an offset.

@@ -54,7 +54,7 @@ pub fn rows(n: Counts) -> usize
     (n.tables as usize) * (n.people as usize)
 }
 
-// Where a part starts.
+// Where a part starts: part by part, as the definition says.
 pub fn start(n: Counts, part: Part) -> usize
     ensures { result ≡ start_of n part }
 {

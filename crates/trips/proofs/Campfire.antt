@@ -5,7 +5,7 @@ use Rattle.sets.specs.Sets.{has, count, size, members, past}
 use Rattle.sets.specs.Stored.{number}
 use Rattle.cases.specs.Case.{entry, roles_held, roles_for}
 use Rattle.cases.proofs.Worked.{campfire}
-use Rattle.refusals.specs.declared.Judged.TheVariants.{Good}
+use Rattle.refusals.specs.Refusals.{Good}
 use Rattle.refusals.specs.Refusals.{judged_by, found_first}
 use Rattle.refusals.specs.CaseChecks.{too_many, right_size, bad_rule, step_entry, row_entry, rule_entry, bad_person, bad_roles, bad_order, bad_row, entry_checks}
 use Rattle.words.specs.Part.{run}

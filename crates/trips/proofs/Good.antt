@@ -8,7 +8,7 @@ use borrow.Author.Tests.{le-ltb, eq-eqb}
 use Rattle.cases.specs.declared.Case.{Case}
 use Rattle.cases.specs.Case.{zeroed}
 use Rattle.cases.proofs.Counted.{zeroed-same}
-use Rattle.refusals.specs.declared.Judged.TheVariants.{Good}
+use Rattle.refusals.specs.Refusals.{Good}
 use Rattle.refusals.specs.Refusals.{judged_by}
 use Rattle.refusals.specs.CaseChecks.{too_many, judged_case}
 use Rattle.refusals.proofs.Cases.{limited, good-fits, same-refusal}

@@ -1,4 +1,5 @@
 -- What a refused write gives, and when a write is refused.
+use Rattle.std.specs.Prelude.{Ok, Err}
 use Prim.Native.Nat.{ℕ}
 use mathlib.Core.Path.{◌≡◌, refl, sym, ◌∙◌, ap, subst}
 use mathlib.Core.Logic.{inl, inr, ◌↔◌}
@@ -7,16 +8,16 @@ use native.Mathlib.Omega.{arith}
 use lib.ListN.{length}
 use Rattle.cases.specs.declared.Case.{Case}
 use Rattle.refusals.specs.declared.Refusal.{Refusal}
-use Rattle.refusals.specs.declared.Judged.{Judged}
-use Rattle.refusals.specs.declared.Judged.TheVariants as judged
+use Rattle.refusals.specs.Refusals.{Judged}
+use Rattle.refusals.specs.Refusals as judged
 use Rattle.refusals.specs.Offsets.{total_of}
 use Rattle.refusals.specs.CaseChecks.{case_checks}
 use Rattle.refusals.specs.Table.{Exactly, Meets, case_table}
 use Rattle.refusals.proofs.Table.{exactly, told-append, only-tells}
 use Rattle.refusals.proofs.Conditions.{below-is}
 use Rattle.refusals.proofs.Cases.{case-tells}
-use Rattle.writing.specs.declared.Written.{Written}
-use Rattle.writing.specs.declared.Written.TheVariants.{Bytes, Refused}
+use Rattle.writing.specs.Writing.{Written}
+use Rattle.writing.specs.Writing.{Refused}
 use Rattle.writing.specs.Writing.{room_check, write_checks, judged_write, answer_of, write_answer, held_after, written, told, judged_in, write_table}
 use Rattle.trips.specs.Trips.{LeftAlone}
 
@@ -26,8 +27,8 @@ unfolding write_answer judged_in
 write-judged n c = go (judged_write n c)
   where
     go : (j : Judged) → judged_in (answer_of c j) ≡ j
-    go judged.Good = refl
-    go (judged.Refused r) = refl
+    go (Ok nothing) = refl
+    go (Err r) = refl
 
 -- A write gives 4, 7 to 11 or 15 exactly when that number is met and no lower one is, at the earliest entry's place; else it is good.
 pub write-exactly : (c : Case) (n : ℕ) → Exactly (write_table c n) (judged_in (write_answer n c))
@@ -55,8 +56,8 @@ unfolding told judged_in write_answer
 told-zero c n = (to (write_answer n c) refl, from)
   where
     to : (w : Written) → write_answer n c ≡ w → (told w).number ≡ 0 → judged_write n c ≡ judged.Good
-    to (Bytes k) e z = sym (write-judged n c) ∙ ap judged_in e
-    to (Refused r) e z =
+    to (Ok k) e z = sym (write-judged n c) ∙ ap judged_in e
+    to (Err r) e z =
         absurd (met-number c n r.number r.place (((write-exactly c n).given r.number r.place).0 (ap judged_in e)).0 z)
 
     from : judged_write n c ≡ judged.Good → (told (write_answer n c)).number ≡ 0

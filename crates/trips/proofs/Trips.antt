@@ -6,7 +6,7 @@ use lib.ListN.{length, take, drop}
 use lib.Seq.{take_at, drop_at}
 use Rattle.sets.specs.Lists.{from, upto}
 use Rattle.cases.specs.declared.Case.{Case}
-use Rattle.refusals.specs.declared.Judged.TheVariants.{Good}
+use Rattle.refusals.specs.Refusals.{Good}
 use Rattle.refusals.specs.Offsets.{total_of}
 use Rattle.refusals.specs.CaseChecks.{judged_case}
 use Rattle.refusals.proofs.Cases.{limited}
@@ -20,7 +20,7 @@ use Rattle.files.specs.Checks.{judged_file}
 use Rattle.files.specs.Reading.{read_of}
 use Rattle.files.proofs.Headers.{good-header}
 use Rattle.files.proofs.Nothing.{read-good}
-use Rattle.writing.specs.declared.Written.TheVariants.{Bytes}
+use Rattle.writing.specs.Writing.{Bytes}
 use Rattle.writing.specs.Writing.{write_answer, written, told}
 use Rattle.writing.proofs.Judged.{good-write, good-leaves}
 use Rattle.trips.specs.Trips.{front_of, WrittenThenRead, ReadThenWritten}

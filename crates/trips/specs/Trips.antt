@@ -4,7 +4,7 @@ use Rattle.std.specs.Prelude.{◌≡◌, List, ◌++◌, ℕ, length, take, drop
 use Rattle.cases.specs.declared.Case.{Case}
 use Rattle.cases.specs.Case.{zeroed}
 use Rattle.refusals.specs.declared.Refusal.{Refusal}
-use Rattle.refusals.specs.declared.Judged.TheVariants.{Good}
+use Rattle.refusals.specs.Refusals.{Good}
 use Rattle.refusals.specs.Offsets.{total_of}
 use Rattle.files.specs.Checks.{judged_file}
 use Rattle.files.specs.Reading.{read_of}

@@ -1,27 +1,29 @@
 -- What the writer's steps come to, over plain values.
-use Prim.Native.Nat.{ℕ, ◌-◌, ◌≤◌}
-use mathlib.Core.Path.{◌≡◌, refl, ◌∙◌, ap}
+use Prim.Native.Nat.{ℕ, ◌≤◌}
+use mathlib.Core.Path.{◌≡◌, refl, ap}
 use mathlib.Core.List.{List, [], ◌++◌}
 use native.Mathlib.Nat.{mul-le-mul}
 use native.Mathlib.Omega.{arith}
-use lib.ListN.{drop}
+use lib.ListN.{length, get_or, take, drop}
+use Rattle.std.proofs.lemmas.List.{get_or-take}
 use Rattle.cases.specs.declared.Counts.{Counts}
 use Rattle.cases.specs.declared.Case.{Case}
-use Rattle.words.specs.Part.{splice}
-use Rattle.words.proofs.Parts.{front-step}
+use Rattle.words.specs.Part.{run, splice}
+use Rattle.words.proofs.Parts.{front-step, run-cong}
 use Rattle.refusals.specs.Offsets.{rows_in, steps_at, tables_at, rules_at, total_of}
 use Rattle.refusals.specs.CaseChecks.{Limited}
-use Rattle.layout.specs.declared.Part.{Part}
-use Rattle.layout.specs.Layout.{start_of, end_of, head_bytes, people_bytes, steps_bytes, tables_bytes, rules_bytes, file_of}
+use Rattle.layout.specs.Layout.{head_bytes, people_bytes, steps_bytes, tables_bytes, rules_bytes, file_of}
 use Rattle.layout.proofs.Lengths.{head-long, people-long, steps-long, tables-long, rules-long, upto-people, upto-steps, upto-tables}
 
 -- within the limits there are at most six tables of 32 rows
 pub rows-most : (n : Counts) → Limited n → rows_in n ≤ 192
 rows-most n h = mul-le-mul h.tables h.people
 
--- how long the stretch of a part is, where it is known which part it is
-pub stretch-of : (n : Counts) {part known : Part} {k : ℕ} → part ≡ known → k ≡ end_of n part - start_of n part → k ≡ end_of n known - start_of n known
-stretch-of n e h = h ∙ ap (λ (x : Part). end_of n x - start_of n x) e
+-- the first n entries of an array are written as the array's entries
+pub run-front : {A : Type 0} (e : A → List ℕ) (l : List A) (z : A) (n : ℕ) → length (take n l) ≡ n
+    → run (λ i. e (get_or (take n l) i z)) (length (take n l)) ≡ run (λ i. e (get_or l i z)) n
+run-front e l z n h =
+    rw h (run-cong (λ i. e (get_or (take n l) i z)) (λ i. e (get_or l i z)) n (λ i b. ap e (get_or-take n l i z b)))
 
 -- The header and the parts, written one after the other, make the file.
 pub filled : (c : Case) (l₀ l₁ l₂ l₃ l₄ l₅ : List ℕ)

@@ -1,10 +1,9 @@
 -- Writing a case as a file: what it is refused for, what it answers, and what the lent buffer holds afterwards.
-use Rattle.std.specs.Prelude.{List, [], ◌∷◌, ◌++◌, ℕ, ◌<◌, ltb, length, drop}
+use Rattle.std.specs.Prelude.{List, [], ◌∷◌, ◌++◌, ℕ, ◌<◌, ltb, length, drop, Result, Ok, Err}
 use Rattle.cases.specs.declared.Counts.{Counts}
 use Rattle.cases.specs.declared.Case.{Case}
-use Rattle.refusals.specs.declared.Judged.{Judged}
-use Rattle.refusals.specs.declared.Judged.TheVariants as judged
-use Rattle.refusals.specs.Refusals.{Check, judged_by, only_check}
+use Rattle.refusals.specs.declared.Refusal.{Refusal}
+use Rattle.refusals.specs.Refusals.{Judged, Good, Check, judged_by, only_check}
 use Rattle.refusals.specs.Offsets.{total_of}
 use Rattle.refusals.specs.CaseChecks.{case_checks}
 use Rattle.refusals.specs.Table.{Row, whole, case_table}
@@ -12,8 +11,6 @@ use Rattle.words.specs.Part.{splice}
 use Rattle.layout.specs.declared.Part.{Part}
 use Rattle.layout.specs.declared.Part.TheVariants as parts
 use Rattle.layout.specs.Layout.{file_of, start_of, end_of, people_bytes, steps_bytes, tables_bytes, rules_bytes}
-use Rattle.writing.specs.declared.Written.{Written}
-use Rattle.writing.specs.declared.Written.TheVariants.{Bytes, Refused}
 
 -- ---- What a write is judged by
 
@@ -31,18 +28,28 @@ judged_write n c = judged_by (write_checks c n)
 
 -- ---- What it answers, and what it leaves
 
+-- What a write answers: how many bytes of the buffer it wrote, or why it wrote none.
+abbrev pub Written : Type 0
+Written = Result ℕ Refusal
+
+abbrev pub Bytes : ℕ → Written
+Bytes n = Ok n
+
+abbrev pub Refused : Refusal → Written
+Refused r = Err r
+
 -- the answer: how many bytes it wrote, or the refusal
 abbrev pub answer_of : Case → Judged → Written
-answer_of c judged.Good = Bytes (total_of c.counts)
-answer_of c (judged.Refused r) = Refused r
+answer_of c (Ok nothing) = Bytes (total_of c.counts)
+answer_of c (Err r) = Refused r
 
 unfoldable pub write_answer : ℕ → Case → Written
 write_answer n c = answer_of c (judged_write n c)
 
 -- what the buffer holds afterwards: the file, and past it what stood there; where the write is refused, what stood there
 abbrev pub held_after : List ℕ → Case → Judged → List ℕ
-held_after buffer c judged.Good = file_of c ++ drop (total_of c.counts) buffer
-held_after buffer c (judged.Refused r) = buffer
+held_after buffer c (Ok nothing) = file_of c ++ drop (total_of c.counts) buffer
+held_after buffer c (Err r) = buffer
 
 unfoldable pub written : List ℕ → Case → List ℕ
 written buffer c = held_after buffer c (judged_write (length buffer) c)
@@ -67,13 +74,13 @@ pub record Told : Type 0 where
   pub bytes : ℕ
 
 unfoldable pub told : Written → Told
-told (Bytes n) = record { number = 0; place = 0; bytes = n }
-told (Refused r) = record { number = r.number; place = r.place; bytes = 0 }
+told (Ok n) = record { number = 0; place = 0; bytes = n }
+told (Err r) = record { number = r.number; place = r.place; bytes = 0 }
 
 -- the judgement that an answer gives
 unfoldable pub judged_in : Written → Judged
-judged_in (Bytes n) = judged.Good
-judged_in (Refused r) = judged.Refused r
+judged_in (Ok n) = Good
+judged_in (Err r) = Err r
 
 -- ---- The scope's table of what the writer can meet: 4, 7 to 11, then 15, for a buffer of n bytes
 

@@ -1,58 +1,47 @@
 // Writes a case as a file into a lent buffer. Each part's writer is lent that part's own stretch of the buffer and knows nothing of the rest.
 #![tactic(auto)]
 
-ghost use Rattle.std.specs.Prelude.{◌≡◌, ◌++◌, ◌+◌, ◌-◌, ◌*◌, ◌<◌, ◌≤◌, length, get_or, drop};
+ghost use Rattle.std.specs.Prelude.{◌≡◌, ℕ, List, ◌++◌, ◌+◌, ◌-◌, ◌*◌, ◌≤◌, length, get_or, drop};
 ghost use Rattle.std.proofs.lemmas.List.Edits.{sets};
 ghost use Rattle.sets.specs.Stored.{no_people};
-ghost use Rattle.cases.specs.Case.{most_steps, most_tables, most_people, most_rules, zero_step, zero_rule};
+ghost use Rattle.cases.specs.Case.{zero_step, zero_rule};
 ghost use Rattle.words.specs.Part.{run, splice};
-ghost use Rattle.refusals.specs.Offsets.{total_of};
+ghost use Rattle.refusals.specs.Offsets.{person_bytes, step_bytes, row_bytes, rule_bytes, total_of};
 ghost use Rattle.refusals.specs.CaseChecks.{Limited};
-ghost use Rattle.layout.specs.Layout.{start_of, end_of, file_of, head_bytes, bytes_of_words, bytes_of_step, bytes_of_row, bytes_of_rule};
+ghost use Rattle.layout.specs.Layout.{start_of, end_of, file_of, head_bytes, bytes_of_person, bytes_of_step, bytes_of_row, bytes_of_rule};
 ghost use Rattle.writing.specs.Writing.{judged_write, write_answer, written, part_bytes, with_part};
+ghost use Rattle.writing.specs.Lengths.{person_long, step_long, row_long, rule_long};
 
 use cases::{Case, Counts, Rule, StepEntry};
 use judging::judge_case;
 use layout::{Part, end, rows, rules_at, start, steps_at, tables_at, total};
-use refusals::{Judged, Refusal};
+use refusals::{Refusal, refused_if};
 use sets::People;
 use words::{put_long, put_word};
 
-// What a write answers: how many bytes of the buffer it wrote, or why it wrote none.
-#[derive(Clone, Copy)]
-pub enum Written {
-    Bytes(u16),
-    Refused(Refusal),
-}
-
 // Writes the case as a file to the front of the buffer, and says how many bytes that took; what stands past them stays. The case is judged by 4
 // and 7 to 11, and then the buffer by 15. A refused write changes no byte. Entries above a count are not looked at.
-pub fn write(case: Case, buffer: &mut [u8]) -> Written
+pub fn write(case: Case, buffer: &mut [u8]) -> Result<u16, Refusal>
     ensures { (result ≡ write_answer (length buffer.old) case) × (buffer.new ≡ written buffer.old case) }
 {
-    let judged = judge_write(case, buffer.len());
-    match judged {
-        Judged::Good => {
-            write_file(case, buffer);
-            let bytes = total(case.counts) as u16;
-            Written::Bytes(bytes)
-        }
-        Judged::Refused(refusal) => Written::Refused(refusal),
-    }
+    judge_write(&case, buffer.len())?;
+    write_file(&case, buffer);
+    let bytes = total(case.counts) as u16;
+    Ok(bytes)
 }
 
 // The case first, then the room for its file.
-fn judge_write(case: Case, room: usize) -> Judged
-    ensures { result ≡ judged_write room case }
+fn judge_write(case: &Case, room: usize) -> Result<(), Refusal>
+    ensures { result ≡ judged_write room case.now }
 {
-    let short = room < total(case.counts);
-    judge_case(case).or_else(Judged::refused_if(short, 15, 0))
+    judge_case(*case)?;
+    refused_if(room < total(case.counts), 15, 0)
 }
 
-// The header, then the four parts.
-fn write_file(case: Case, buffer: &mut [u8])
-    requires { Limited case.counts × (total_of case.counts ≤ length buffer.old) }
-    ensures { buffer.new ≡ file_of case ++ drop (total_of case.counts) buffer.old }
+// The header, then the four parts. Counts within their limits stand in clauses, as in `judging`.
+fn write_file(case: &Case, buffer: &mut [u8])
+    requires { Limited case.now.counts × (total_of case.now.counts ≤ length buffer.old) }
+    ensures { buffer.new ≡ file_of case.now ++ drop (total_of case.now.counts) buffer.old }
 {
     lend_header(case.counts, buffer);
     lend_part(case, Part::People, buffer);
@@ -70,40 +59,13 @@ fn lend_header(counts: Counts, buffer: &mut [u8])
 }
 
 // Lends a part's stretch of the buffer to its writer.
-fn lend_part(case: Case, part: Part, buffer: &mut [u8])
-    requires { Limited case.counts × (total_of case.counts ≤ length buffer.old) }
-    ensures { buffer.new ≡ with_part buffer.old case part }
+fn lend_part(case: &Case, part: Part, buffer: &mut [u8])
+    requires { Limited case.now.counts × (total_of case.now.counts ≤ length buffer.old) }
+    ensures { buffer.new ≡ with_part buffer.old case.now part }
 {
     let a = start(case.counts, part);
     let e = end(case.counts, part);
     write_part(case, part, &mut buffer[a..e]);
-}
-
-// Each part has its own writer, which gets the part's entries and how many of them are in use.
-fn write_part(case: Case, part: Part, stretch: &mut [u8])
-    requires { Limited case.counts × (length stretch.old ≡ end_of case.counts part - start_of case.counts part) }
-    ensures { stretch.new ≡ part_bytes case part }
-{
-    let counts = case.counts;
-    match part {
-        Part::People => {
-            let people = case.people;
-            write_people(people, counts.people as usize, stretch);
-        }
-        Part::Steps => {
-            let steps = case.steps;
-            write_steps(steps, counts.steps as usize, stretch);
-        }
-        Part::Tables => {
-            let n = rows(counts);
-            let entries = case.rows;
-            write_tables(entries, n, stretch);
-        }
-        Part::Rules => {
-            let rules = case.rules;
-            write_rules(rules, counts.rules as usize, stretch);
-        }
-    }
 }
 
 // The header: twelve 16-bit numbers.
@@ -125,86 +87,121 @@ fn write_header(counts: Counts, stretch: &mut [u8])
         total(counts) as u16,
         0,
     ];
-    write_words(&words, 12, stretch);
+    write_entries(&words, stretch);
 }
 
-// The first n people, two bytes each: the roles that they hold.
-fn write_people(people: [u16; Case::PEOPLE], n: usize, stretch: &mut [u8])
-    requires { (length stretch.old ≡ 2 * n) × (n ≤ most_people) }
-    ensures { stretch.new ≡ bytes_of_words people n }
+// The entries of a part that are in use.
+fn write_part(case: &Case, part: Part, stretch: &mut [u8])
+    requires { Limited case.now.counts × (length stretch.old ≡ end_of case.now.counts part - start_of case.now.counts part) }
+    ensures { stretch.new ≡ part_bytes case.now part }
 {
-    write_words(&people, n, stretch);
-}
-
-// The first n of the 16-bit numbers, two bytes each.
-fn write_words(words: &[u16], n: usize, stretch: &mut [u8])
-    requires { (length stretch.old ≡ 2 * n) × (n ≤ length words.now) }
-    ensures { stretch.new ≡ bytes_of_words words.now n }
-{
-    let mut i = 0;
-    while i < n {
-        put_word(stretch, 2 * i, words[i]);
-        i += 1;
+    let n = case.counts;
+    match part {
+        Part::People => write_entries(&case.people[..n.people as usize], stretch),
+        Part::Steps => write_entries(&case.steps[..n.steps as usize], stretch),
+        Part::Tables => write_entries(&case.rows[..rows(n)], stretch),
+        Part::Rules => write_entries(&case.rules[..n.rules as usize], stretch),
     }
 }
 
-// The first n steps, four bytes each.
-fn write_steps(steps: [StepEntry; Case::STEPS], n: usize, stretch: &mut [u8])
-    requires { (length stretch.old ≡ 4 * n) × (n ≤ most_steps) }
-    ensures { stretch.new ≡ run (λ i. bytes_of_step (get_or steps i zero_step)) n }
+// Entries, one after the other.
+fn write_entries<E: Entry>(entries: &[E], stretch: &mut [u8])
+    requires { length stretch.old ≡ E.BYTES * length entries.now }
+    ensures { stretch.new ≡ run (λ i. E.bytes_of (get_or entries.now i E.zero)) (length entries.now) }
 {
-    let mut i = 0;
-    while i < n {
-        let step = steps[i];
-        put_step(step, 4 * i, stretch);
-        i += 1;
+    for (i, entry) in entries.iter().enumerate() {
+        entry.put(stretch, E::BYTES * i);
     }
 }
 
-// The roles that may do the step, the steps that must precede it, and the spare byte.
-fn put_step(step: StepEntry, at: usize, stretch: &mut [u8])
-    requires { at + 3 < length stretch.old }
-    ensures { stretch.new ≡ sets stretch.old at (bytes_of_step step) }
-{
-    stretch[at] = (step.roles % 256) as u8;
-    stretch[at + 1] = (step.roles / 256) as u8;
-    stretch[at + 2] = step.before;
-    stretch[at + 3] = step.spare;
+// An entry of a part, and the bytes that write it. Reading has a trait of its own, in `entries`, which knows nothing of writing.
+trait Entry: Copy {
+    // How many bytes an entry has.
+    const BYTES: usize;
+
+    ghost BYTES: { ℕ };
+
+    ghost zero: { Self };
+
+    ghost bytes_of: { Self → List ℕ };
+
+    // Stores the bytes at place i.
+    fn put(self, s: &mut [u8], i: usize)
+        requires { i + BYTES ≤ length s.old }
+        ensures { s.new ≡ sets s.old i (bytes_of self) };
+
+    ghost long: { (entry : Self) → length (bytes_of entry) ≡ BYTES };
 }
 
-// The first n table rows, four bytes each.
-fn write_tables(rows: [People; Case::ROWS], n: usize, stretch: &mut [u8])
-    requires { (length stretch.old ≡ 4 * n) × (n ≤ most_tables * most_people) }
-    ensures { stretch.new ≡ run (λ i. bytes_of_row (get_or rows i no_people)) n }
-{
-    let mut i = 0;
-    while i < n {
-        let row = rows[i];
-        put_long(stretch, 4 * i, row.word());
-        i += 1;
+// A person: the set of roles held. A number of the header is written alike.
+impl Entry for u16 {
+    const BYTES: usize = 2;
+
+    ghost BYTES = { person_bytes };
+
+    ghost zero = { 0 };
+
+    ghost bytes_of = { bytes_of_person };
+
+    ghost long = { person_long };
+
+    fn put(self, s: &mut [u8], i: usize) {
+        put_word(s, i, self);
     }
 }
 
-// The first n rules, four bytes each.
-fn write_rules(rules: [Rule; Case::RULES], n: usize, stretch: &mut [u8])
-    requires { (length stretch.old ≡ 4 * n) × (n ≤ most_rules) }
-    ensures { stretch.new ≡ run (λ i. bytes_of_rule (get_or rules i zero_rule)) n }
-{
-    let mut i = 0;
-    while i < n {
-        let rule = rules[i];
-        put_rule(rule, 4 * i, stretch);
-        i += 1;
+// A step: the roles that may do it, the steps that must precede it, and the spare byte.
+impl Entry for StepEntry {
+    const BYTES: usize = 4;
+
+    ghost BYTES = { step_bytes };
+
+    ghost zero = { zero_step };
+
+    ghost bytes_of = { bytes_of_step };
+
+    ghost long = { step_long };
+
+    fn put(self, s: &mut [u8], i: usize) {
+        put_word(s, i, self.roles);
+        s[i + 2] = self.before;
+        s[i + 3] = self.spare;
     }
 }
 
-// Form, relation, step s, set X.
-fn put_rule(rule: Rule, at: usize, stretch: &mut [u8])
-    requires { at + 3 < length stretch.old }
-    ensures { stretch.new ≡ sets stretch.old at (bytes_of_rule rule) }
-{
-    stretch[at] = rule.form;
-    stretch[at + 1] = rule.relation;
-    stretch[at + 2] = rule.step.0;
-    stretch[at + 3] = rule.group;
+// A table row: bit v for person v.
+impl Entry for People {
+    const BYTES: usize = 4;
+
+    ghost BYTES = { row_bytes };
+
+    ghost zero = { no_people };
+
+    ghost bytes_of = { bytes_of_row };
+
+    ghost long = { row_long };
+
+    fn put(self, s: &mut [u8], i: usize) {
+        put_long(s, i, self.word());
+    }
+}
+
+// A rule: form, relation, step s, set X.
+impl Entry for Rule {
+    const BYTES: usize = 4;
+
+    ghost BYTES = { rule_bytes };
+
+    ghost zero = { zero_rule };
+
+    ghost bytes_of = { bytes_of_rule };
+
+    ghost long = { rule_long };
+
+    fn put(self, s: &mut [u8], i: usize) {
+        s[i] = self.form;
+        s[i + 1] = self.relation;
+        s[i + 2] = self.step.0;
+        s[i + 3] = self.group;
+    }
 }

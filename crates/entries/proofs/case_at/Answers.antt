@@ -5,12 +5,16 @@ pub returns : goal.returns
 unfolding case_at
 returns c =
     simp (
-      c.read_rules-rules.ensures,
-      c.read_rows-rows.ensures,
-      c.read_steps-steps.ensures,
-      c.read_people-people.ensures,
-      c.total-e.ensures,
-      c.rules_at-d.ensures.0,
-      c.tables_at-b.ensures.0,
-      c.steps_at-a.ensures.0,
+      c.read_entries-4.ensures,
+      c.read_entries-3.ensures,
+      c.read_entries-2.ensures,
+      c.read_entries.ensures,
+      c.empty-case.ensures,
+      c.total.ensures,
+      c.rules_at-2.ensures.0,
+      c.rules_at.ensures.0,
+      c.tables_at-2.ensures.0,
+      c.tables_at.ensures.0,
+      c.steps_at-2.ensures.0,
+      c.steps_at.ensures.0,
     )

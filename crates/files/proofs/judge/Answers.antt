@@ -5,4 +5,4 @@ use Rattle.files.proofs.judge.Goals as goal
 
 pub returns : goal.returns
 unfolding read_of
-returns c = ap (λ (r : FileRead). r.judged) c.read-r.ensures
+returns c = ap (λ (r : FileRead). r.judged) c.read.ensures

@@ -1,2 +1,0 @@
--- What reading past the end of a part gives.
-pub mod Past

@@ -1,0 +1,2 @@
+-- The laws of entries: past the end of a part they are zero.
+pub mod Past
