@@ -8,9 +8,8 @@ use Rattle.sets.specs.Stored.{width}
 use Rattle.games.specs.Games.{Absent}
 use Rattle.cases.specs.declared.Case.{Case}
 use Rattle.cases.specs.Case.{people}
-use Rattle.refusals.specs.declared.Judged.{Judged}
-use Rattle.refusals.specs.declared.Judged.TheVariants.{Good, Refused}
-use Rattle.refusals.specs.Refusals.{Check, judged_by, or_else}
+use Rattle.std.specs.Prelude.{Ok, Err}
+use Rattle.refusals.specs.Refusals.{Judged, Good, Check, judged_by, or_else}
 use Rattle.refusals.specs.CaseChecks.{case_checks, judged_case}
 use Rattle.refusals.proofs.Order.{good-refused, judged-append, good-checks}
 use Rattle.asking.specs.Asking.{most_absent, number_check, position_check, absence_check, judged_question, judged_away, judged_advice}
@@ -18,8 +17,8 @@ use Rattle.asking.proofs.Accepted.{GoodPosition, number-accepted, position-accep
 
 -- two judgements that come to good are both good
 both-good : (j k : Judged) → or_else j k ≡ Good → (j ≡ Good) × (k ≡ Good)
-both-good Good k e = (refl, e)
-both-good (Refused r) k e = absurd (good-refused e refl)
+both-good (Ok nothing) k e = (refl, e)
+both-good (Err r) k e = absurd (good-refused e refl)
 
 -- one check that refuses nothing
 lone : (x : Check) → judged_by (x ∷ []) ≡ Good → x ≡ none

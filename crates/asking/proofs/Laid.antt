@@ -10,7 +10,7 @@ use Rattle.cases.specs.declared.Rule.{Rule}
 use Rattle.cases.specs.declared.Case.{Case}
 use Rattle.cases.specs.Case.{people, steps, zero_rule}
 use Rattle.cases.proofs.Rounds.{entry_at}
-use Rattle.refusals.specs.declared.Judged.TheVariants.{Good}
+use Rattle.refusals.specs.Refusals.{Good}
 use Rattle.refusals.specs.CaseChecks.{bad_rule, rule_entry, judged_case}
 use Rattle.refusals.specs.Table.{BadRule, bad_form, bad_relation, bad_first}
 use Rattle.refusals.proofs.Conditions.{bad-rule}

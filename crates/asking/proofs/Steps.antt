@@ -1,5 +1,5 @@
 -- What the code's steps come to, over plain values.
-use mathlib.Core.Path.{◌≡◌, sym, ap, ap₂, ◌∙◌}
+use mathlib.Core.Path.{◌≡◌, refl, sym, ap, ap₂, ◌∙◌}
 use mathlib.Core.Bool.{Bool, true, false, not, ◌&&◌, ◌||◌}
 use mathlib.Core.Option.{some}
 use mathlib.Core.List.{List, [], ◌∷◌}
@@ -26,25 +26,27 @@ use Rattle.boards.specs.Board.{allowed_on, fits_on}
 use Rattle.boards.specs.Arena.{put_on}
 use Rattle.meaning.specs.Listed.{fill_from, filled_by}
 use Rattle.meaning.proofs.Listed.{filled-snoc}
-use Rattle.refusals.specs.declared.Judged.{Judged}
-use Rattle.refusals.specs.declared.Judged.TheVariants.{Good, Refused}
-use Rattle.refusals.specs.Refusals.{refusal, only_check, refusal_at, judged_by, found_first}
+use Rattle.refusals.specs.Refusals.{Judged, Good, Refused, refusal, only_check, refusal_at, judged_by, found_first, or_else}
 use Rattle.refusals.proofs.Search.{Searched, search-start, search-step, search-hit, search-end}
 use Rattle.asking.specs.Asking.{absence_check}
 use Rattle.asking.specs.OnBoard.{bad_next, bad_entry_on, position_check_on}
 
 -- ---- An absence set
 
-pub absent-unknown : (n t A : ℕ) {r : Bool} → r ≡ past width A n → r ≡ true → Refused (refusal 14 0) ≡ judged_by (absence_check n t A ∷ [])
-unfolding absence_check judged_by
-absent-unknown n t A e f = sym (ap (λ (x : Bool). judged_by (only_check 14 (x || ltb t (size width A)) ∷ [])) (sym e ∙ f))
+-- one check of either of two, or a check of each
+either_check : (a b : Bool) → judged_by (only_check 14 (a || b) ∷ []) ≡ or_else (judged_by (only_check 14 a ∷ [])) (judged_by (only_check 14 b ∷ []))
+unfolding judged_by
+either_check true b = refl
+either_check false b = refl
 
-pub absent-many : (n t A : ℕ) {r : Bool} {s : ℕ} {j : Judged} → r ≡ past width A n → r ≡ false → s ≡ size width A
-    → j ≡ judged_by (only_check 14 (ltb t s) ∷ []) → j ≡ judged_by (absence_check n t A ∷ [])
+pub absent-judged : (n t A : ℕ) (i k : Judged) {p : Bool} {s : ℕ} → p ≡ past width A n → i ≡ judged_by (only_check 14 p ∷ [])
+    → s ≡ size width A → k ≡ judged_by (only_check 14 (ltb t s) ∷ []) → or_else i k ≡ judged_by (absence_check n t A ∷ [])
 unfolding absence_check
-absent-many n t A e f g h =
-    h ∙ ap (λ (x : ℕ). judged_by (only_check 14 (ltb t x) ∷ [])) g
-    ∙ sym (ap (λ (x : Bool). judged_by (only_check 14 (x || ltb t (size width A)) ∷ [])) (sym e ∙ f))
+absent-judged n t A i k e f g h =
+    ap₂ or_else
+    (f ∙ ap (λ (x : Bool). judged_by (only_check 14 x ∷ [])) e)
+    (h ∙ ap (λ (x : ℕ). judged_by (only_check 14 (ltb t x) ∷ [])) g)
+    ∙ sym (either_check (past width A n) (ltb t (size width A)))
 
 -- ---- The tests of one person
 

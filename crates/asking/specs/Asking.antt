@@ -7,8 +7,7 @@ use Rattle.sets.specs.Stored.{width}
 use Rattle.cases.specs.declared.Case.{Case}
 use Rattle.cases.specs.Case.{people, steps}
 use Rattle.cases.specs.Plans.{may, holds}
-use Rattle.refusals.specs.declared.Judged.{Judged}
-use Rattle.refusals.specs.Refusals.{Check, refusal, judged_by, only_check, entry_check}
+use Rattle.refusals.specs.Refusals.{Judged, Check, refusal, judged_by, only_check, entry_check}
 use Rattle.refusals.specs.CaseChecks.{case_checks}
 
 -- the highest absence number

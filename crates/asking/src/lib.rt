@@ -13,46 +13,49 @@ ghost use Rattle.asking.specs.OnBoard.{bad_next, position_check_on};
 
 use boards::{PLACES, allowed, fits};
 use cases::{Filled, Person, Position, Step};
-use refusals::{Judged, Refusal};
+use refusals::{Refusal, refused_if};
 use sets::People;
 
 // The highest absence number.
 pub const MOST_ABSENT: u32 = 32;
 
 // 12: judges the absence number.
-pub fn judge_number(t: u32) -> Judged
+pub fn judge_number(t: u32) -> Result<(), Refusal>
     ensures { result ≡ judged_by (number_check t ∷ []) }
 {
-    Judged::refused_if(MOST_ABSENT < t, 12, 0)
+    refused_if(MOST_ABSENT < t, 12, 0)
 }
 
 // 13: judges a position on a board, for so many people and steps. The place is the step count where the position is too long, else the index of the
-// first entry that is unknown, not allowed, or makes the position invalid.
-pub fn judge_position(board: &[u32; PLACES], people: u16, steps: u16, p: Position) -> Judged
+// first entry that is unknown, not allowed, or makes the position invalid. The contract holds for every number of people, so it takes no `Board`.
+pub fn judge_position(
+    board: &[u32; PLACES],
+    people: u16,
+    steps: u16,
+    p: Position,
+) -> Result<(), Refusal>
     requires { steps ≤ most_steps }
     ensures { result ≡ judged_by (position_check_on board.now people steps (persons p) ∷ []) }
 {
     let len = p.len;
     if steps <= (len as u16) {
-        return Judged::Refused(Refusal {
+        return Err(Refusal {
             number: 13,
             place: steps as usize,
         });
     }
     let mut passed = Filled::start();
-    let mut i: u8 = 0;
-    while i < len {
+    for i in 0..len {
         let v = p.person(i);
         if bad_next(board, people, passed, Step(i), v) {
-            return Judged::Refused(Refusal {
+            return Err(Refusal {
                 number: 13,
                 place: i as usize,
             });
         }
         passed = passed.placed(Step(i), v);
-        i += 1;
     }
-    Judged::Good
+    Ok(())
 }
 
 // Placed at step s, is person v unknown, not allowed, or does a rule break?
@@ -74,23 +77,16 @@ pub fn filled(p: Position) -> Filled
     ensures { result ≡ filled_by (persons p) }
 {
     let mut q = Filled::start();
-    let mut i: u8 = 0;
-    while i < p.len {
+    for i in 0..p.len {
         q = q.placed(Step(i), p.person(i));
-        i += 1;
     }
     q
 }
 
 // 14: judges a set of absentees, for so many people and an absence number.
-pub fn judge_absent(people: u16, t: u32, absent: People) -> Judged
+pub fn judge_absent(people: u16, t: u32, absent: People) -> Result<(), Refusal>
     ensures { result ≡ judged_by (absence_check people t (number absent) ∷ []) }
 {
-    if absent.past(people) {
-        return Judged::Refused(Refusal {
-            number: 14,
-            place: 0,
-        });
-    }
-    Judged::refused_if(t < absent.size(), 14, 0)
+    refused_if(absent.past(people), 14, 0)?;
+    refused_if(t < absent.size(), 14, 0)
 }

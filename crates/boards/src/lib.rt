@@ -1,9 +1,9 @@
 // The board: what the searches read. It is one array of plain numbers, lent down every search; specs/Board.antt says what stands at each place.
-// This crate reads a board and does not know how one is laid out from a case. No function has a `requires`: past a board's end every number reads
+// This crate reads a board and does not know how one is laid out from a case. No public function has a `requires`: past a board's end every number reads
 // 0 and every set is of nobody.
 #![tactic(auto)]
 
-ghost use Rattle.std.specs.Prelude.{◌≡◌, get_or};
+ghost use Rattle.std.specs.Prelude.{◌≡◌, ◌≤◌, get_or};
 ghost use Rattle.sets.specs.Sets.{set_of, common, difference, with};
 ghost use Rattle.sets.specs.Stored.{width, number};
 ghost use Rattle.cases.specs.Case.{most_steps, most_rules};
@@ -49,6 +49,14 @@ pub const COMPLETE: usize = READY + HALVES;
 // How many words a board has.
 pub const PLACES: usize = COMPLETE + HALVES;
 
+// A board for so many people, as the searches are lent it.
+#[derive(Drop)]
+pub struct Board {
+    pub words: [u32; PLACES],
+    pub people: u8,
+    ghost known: { people ≤ 32 },
+}
+
 // The people who may do step s.
 pub fn allowed(board: &[u32; PLACES], s: Step) -> People
     ensures { number result ≡ allowed_on board.now s.0 }
@@ -65,7 +73,7 @@ pub fn ready(board: &[u32; PLACES], p: Filled) -> u8
     (less(in_both(board, READY as u16, filled), filled as u32) % 256) as u8
 }
 
-// Those of some people who fit, and the steps whose people were looked at to tell.
+// Those of some people who fit, and the steps whose people were looked at to tell. A struct of its own below `Looked` of the searches: `Fits` names its people.
 #[derive(Clone, Copy)]
 pub struct Fitted {
     pub people: People,
@@ -73,6 +81,7 @@ pub struct Fitted {
 }
 
 // Of some people those with whom, placed at step s, every rule is kept that s completes.
+// Board, position and step stay parameters of their own: every search passes them so, and a struct of them would be made to be taken apart in `pair`.
 pub fn fits(board: &[u32; PLACES], p: Filled, s: Step, among: People) -> People
     ensures { number result ≡ common width (number among) (fits_on board.now p s.0) }
 {
@@ -101,23 +110,21 @@ fn narrowed(board: &[u32; PLACES], p: Filled, s: Step, among: People, due: u32) 
     let mut kept = among;
     let mut looked: u8 = 0;
     let mut left = due;
-    let mut i = lowest_in(left);
-    while i < 32 {
+    while let Some(i) = lowest_in(left) {
         let asked = rule(board, i);
         looked = joined_steps(looked, steps_of(asked));
         kept = kept.common(kept_by(board, p, s, asked));
         if kept.is_none() {
             return Fitted {
                 people: kept,
-                looked: looked,
+                looked,
             };
         }
         left = without(left, i);
-        i = lowest_in(left);
     }
     Fitted {
         people: kept,
-        looked: looked,
+        looked,
     }
 }
 
@@ -133,17 +140,15 @@ fn kept_by(board: &[u32; PLACES], p: Filled, s: Step, rule: Rule) -> People
     ensures { number result ≡ set_of (kept_on board.now p s.0 rule) width }
 {
     let group = rule.group as u32;
-    let x = lowest_in(group);
-    if x < 32 {
-        if without(group, x) == 0 {
-            return pair(board, p, s, rule, Step(x));
-        }
+    match lowest_in(group) {
+        Some(x) if without(group, x) == 0 => pair(board, p, s, rule, Step(x)),
+        _ => keepers(board, p, s, rule),
     }
-    keepers(board, p, s, rule)
 }
 
 // The test of a single rule: the people with whom, placed at step s, it is kept. A pair is (person of the rule's step s, person of a member of its set X).
-// There is one case for each form. In the examples a position lists the persons of step 0, step 1 and so on, the last of them placed next.
+// There is one case for each form. The form is a number and no enum: a rule on a board may have any, and `needed` says what each asks. In the examples a
+// position lists the persons of step 0, step 1 and so on, the last of them placed next.
 fn keepers(board: &[u32; PLACES], p: Filled, s: Step, rule: Rule) -> People
     ensures { number result ≡ set_of (kept_on board.now p s.0 rule) width }
 {
@@ -167,14 +172,12 @@ fn in_every_pair(board: &[u32; PLACES], p: Filled, s: Step, rule: Rule) -> Peopl
 {
     let mut every = everybody_if(true);
     let mut left = rule.group as u32;
-    let mut x = lowest_in(left);
-    while x < 32 {
+    while let Some(x) = lowest_in(left) {
         every = every.common(pair(board, p, s, rule, Step(x)));
         if every.is_none() {
             return every;
         }
         left = without(left, x);
-        x = lowest_in(left);
     }
     every
 }
@@ -185,14 +188,12 @@ fn in_some_pair(board: &[u32; PLACES], p: Filled, s: Step, rule: Rule) -> People
 {
     let mut out = everybody_if(true);
     let mut left = rule.group as u32;
-    let mut x = lowest_in(left);
-    while x < 32 {
+    while let Some(x) = lowest_in(left) {
         out = out.difference(pair(board, p, s, rule, Step(x)));
         if out.is_none() {
             return everybody_if(true);
         }
         left = without(left, x);
-        x = lowest_in(left);
     }
     everybody_if(true).difference(out)
 }
@@ -255,7 +256,7 @@ fn in_both(board: &[u32; PLACES], start: u16, f: u8) -> u32
 }
 
 // The set without those that are gone.
-fn less(set: u32, gone: u32) -> u32
+pub fn less(set: u32, gone: u32) -> u32
     ensures { result ≡ difference most_rules set gone }
 {
     set & !gone
@@ -285,5 +286,5 @@ fn unpack(word: u32) -> Rule
 fn number_at(board: &[u32], place: usize) -> u32
     ensures { result ≡ get_or board.now place 0 }
 {
-    if place < board.len() { board[place] } else { 0 }
+    board.get(place).copied().unwrap_or(0)
 }

@@ -31,7 +31,7 @@ use Rattle.pieces.specs.declared.Order.TheVariants as order
 use Rattle.pieces.specs.Pieces.{packed, related_in, row_in, gathered_in, column_in, having_in, loops_in, allowed_in, preceding_in, named_by, preceded_by, waits_in, free_in, half_in, laid_from}
 use Rattle.pieces.proofs.Rows.{eqb-turned}
 use Rattle.pieces.proofs.Writing.{blank}
-use Rattle.laying.specs.declared.Sizes.{Sizes}
+use Rattle.laying.specs.declared.sizes.Sizes.{Sizes}
 use Rattle.laying.specs.Laid.{names, pair_of, row_of, column_of, loops_of, allowed_of, named_of, preceding, packed_of, ready_of, complete_of, laid_out}
 use Rattle.laying.specs.Ready.{Bounded}
 use Rattle.laying.specs.Putting.{laid_blocks, Front, Sized}

@@ -5,7 +5,7 @@ use Rattle.words.specs.Part.{table}
 use Rattle.cases.specs.declared.Counts.{Counts}
 use Rattle.cases.specs.Case.{most_people}
 use Rattle.boards.specs.Board.{places}
-use Rattle.laying.specs.declared.Sizes.{Sizes}
+use Rattle.laying.specs.declared.sizes.Sizes.{Sizes}
 
 -- the sizes of a case with these counts
 pub record Sized (n : Counts) (z : Sizes) : Type 0 where

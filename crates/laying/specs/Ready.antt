@@ -3,7 +3,7 @@ use Rattle.std.specs.Prelude.{ℕ, ◌+◌, ◌≤◌, ◌<◌, get_or}
 use Rattle.cases.specs.declared.Counts.{Counts}
 use Rattle.cases.specs.declared.Rule.{Rule}
 use Rattle.cases.specs.declared.Case.{Case}
-use Rattle.cases.specs.Case.{most_people, most_steps, most_tables, most_rules, zero_rule, people, steps, tables}
+use Rattle.cases.specs.Case.{most_people, most_steps, most_tables, most_rules, zero_rule, steps, tables}
 
 pub record ReadyRule (c : Case) (r : Rule) : Type 0 where
   pub form : r.form ≤ 3

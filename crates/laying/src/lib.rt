@@ -3,7 +3,9 @@
 // those whose number of turns is best known beforehand: over the steps, and over the entries of a table by halves.
 #![tactic(auto)]
 
-ghost use Rattle.std.specs.Prelude.{◌≡◌, ◌+◌, ◌*◌, ◌≤◌, ◌<◌, get_or};
+mod sizes;
+
+ghost use Rattle.std.specs.Prelude.{◌≡◌, ℕ, ◌+◌, ◌*◌, ◌≤◌, ◌<◌, get_or};
 ghost use Rattle.sets.specs.Stored.{number, no_people};
 ghost use Rattle.cases.specs.Case.{most_people, most_steps, most_tables, most_rules, zero_step, zero_rule};
 ghost use Rattle.boards.specs.Board.{relations, halves, columns_from, loops_from, allowed_from, named_from, rules_from, places};
@@ -18,16 +20,7 @@ use pieces::{
     Order, allowed, column, first_of, following_words, half, loops, named_words, pack, row,
 };
 use sets::People;
-
-// The counts that the loops end at: of people, relations, table rows, steps and rules.
-#[derive(Clone, Copy)]
-struct Sizes {
-    people: u8,
-    kinds: u8,
-    rows: usize,
-    steps: u8,
-    rules: u8,
-}
+use sizes::Sizes;
 
 // The board of a case.
 pub fn lay_out(c: Case, order: Order) -> [u32; PLACES]
@@ -49,15 +42,15 @@ pub fn lay_onto(board: &mut [u32; PLACES], c: Case, order: Order)
     let chain = c.steps;
     let listed = c.rules;
     let mut words = [0u32; Case::ROWS];
-    put_table_words(&mut words, c, n.rows);
+    put_table_words(&mut words, c, n);
     let named = named_words(listed, n.rules);
     let following = following_words(chain, order, n.steps);
-    put_rows(board, &words, n.people, n.kinds);
-    put_columns(board, n.people, n.kinds);
-    put_loops(board, n.people, n.kinds);
-    put_allowed(board, &held, n.people, chain, n.steps);
+    put_rows(board, &words, n);
+    put_columns(board, n);
+    put_loops(board, n);
+    put_allowed(board, &held, chain, n);
     put_named(board, &named);
-    put_rules(board, listed, n.rules);
+    put_rules(board, listed, n);
     put_halves(board, READY as u16, &following, first_of(n.steps));
     put_halves(board, COMPLETE as u16, &named, first_of(n.rules));
 }
@@ -81,93 +74,76 @@ fn capped(n: u8, most: u8) -> u8
     requires { n ≤ most }
     ensures { result ≡ n }
 {
-    if n < most { n } else { most }
+    n.min(most)
 }
 
-// Puts the words of a case's first n table rows. Without a table no row is copied.
-fn put_table_words(out: &mut [u32; Case::ROWS], c: Case, n: usize)
-    requires { n ≤ most_tables * most_people }
-    ensures { out.new ≡ laid_from 0 n (λ i. number (get_or c.rows i no_people)) out.old }
+// Puts the words of a case's table rows. Without a table no row is copied.
+fn put_table_words(out: &mut [u32; Case::ROWS], c: Case, n: Sizes)
+    ensures { out.new ≡ laid_from 0 n.rows (λ i. number (get_or c.rows i no_people)) out.old }
 {
-    if n == 0 {
+    if n.rows == 0 {
         return;
     }
     let rows = c.rows;
     put_words(out, rows, n);
 }
 
-// Puts the words of the first n of these rows.
-fn put_words(out: &mut [u32; Case::ROWS], rows: [People; Case::ROWS], n: usize)
-    requires { n ≤ most_tables * most_people }
-    ensures { out.new ≡ laid_from 0 n (λ i. number (get_or rows i no_people)) out.old }
+// Puts the words of the first of these rows, as many as the tables have.
+fn put_words(out: &mut [u32; Case::ROWS], rows: [People; Case::ROWS], n: Sizes)
+    ensures { out.new ≡ laid_from 0 n.rows (λ i. number (get_or rows i no_people)) out.old }
 {
-    let mut i = 0;
-    while i < n {
-        let row = rows[i];
-        out[i] = row.word();
-        i += 1;
-    }
+    put(out, 0, n.rows as u8, |i| {
+        let row = rows[i as usize];
+        row.word()
+    });
 }
 
 // The rows, relation by relation.
-fn put_rows(board: &mut [u32; PLACES], words: &[u32; Case::ROWS], people: u8, kinds: u8)
-    requires { (people ≤ most_people) × (kinds ≤ relations) }
-    ensures { board.new ≡ laid_blocks 0 kinds people (row_in words.now people) board.old }
+fn put_rows(board: &mut [u32; PLACES], words: &[u32; Case::ROWS], n: Sizes)
+    ensures { board.new ≡ laid_blocks 0 n.kinds n.people (row_in words.now n.people) board.old }
 {
-    let mut k: u8 = 0;
-    while k < kinds {
-        put_row(board, words, people, k);
-        k += 1;
+    for k in 0..n.kinds {
+        put_row(board, words, n, k);
     }
 }
 
 // The rows of relation k, one for each person.
-fn put_row(board: &mut [u32; PLACES], words: &[u32; Case::ROWS], people: u8, k: u8)
-    requires { (people ≤ most_people) × (k < relations) }
-    ensures { board.new ≡ laid_from (k * most_people) people (row_in words.now people k) board.old }
+fn put_row(board: &mut [u32; PLACES], words: &[u32; Case::ROWS], n: Sizes, k: u8)
+    requires { k < relations }
+    ensures { board.new ≡ laid_from (k * most_people) n.people (row_in words.now n.people k) board.old }
 {
-    let mut u: u8 = 0;
-    while u < people {
-        board[(k as usize) * Case::PEOPLE + (u as usize)] = row(words, people, k, u).word();
-        u += 1;
-    }
+    put(board, (k as usize) * Case::PEOPLE, n.people, |u| {
+        row(words, n.people, k, u).word()
+    });
 }
 
 // The columns, relation by relation, read off the rows.
-fn put_columns(board: &mut [u32; PLACES], people: u8, kinds: u8)
-    requires { (people ≤ most_people) × (kinds ≤ relations) }
-    ensures { board.new ≡ laid_blocks columns_from kinds people (column_in board.old) board.old }
+fn put_columns(board: &mut [u32; PLACES], n: Sizes)
+    ensures { board.new ≡ laid_blocks columns_from n.kinds n.people (column_in board.old) board.old }
 {
-    let mut k: u8 = 0;
-    while k < kinds {
-        put_column(board, people, k);
-        k += 1;
+    for k in 0..n.kinds {
+        put_column(board, n, k);
     }
 }
 
 // The columns of relation k, one for each person.
-fn put_column(board: &mut [u32; PLACES], people: u8, k: u8)
-    requires { (people ≤ most_people) × (k < relations) }
-    ensures { board.new ≡ laid_from (columns_from + k * most_people) people (column_in board.old k) board.old }
+fn put_column(board: &mut [u32; PLACES], n: Sizes, k: u8)
+    requires { k < relations }
+    ensures { board.new ≡ laid_from (columns_from + k * most_people) n.people (column_in board.old k) board.old }
 {
-    let mut v: u8 = 0;
-    while v < people {
+    for v in 0..n.people {
         let set = column(board, k, v);
         board[COLUMNS + (k as usize) * Case::PEOPLE + (v as usize)] = set.word();
-        v += 1;
     }
 }
 
 // For each relation the people who are in it with themselves.
-fn put_loops(board: &mut [u32; PLACES], people: u8, kinds: u8)
-    requires { kinds ≤ relations }
-    ensures { board.new ≡ laid_from loops_from kinds (loops_in board.old people) board.old }
+fn put_loops(board: &mut [u32; PLACES], n: Sizes)
+    ensures { board.new ≡ laid_from loops_from n.kinds (loops_in board.old n.people) board.old }
 {
-    let mut k: u8 = 0;
-    while k < kinds {
-        let set = loops(board, people, k);
+    for k in 0..n.kinds {
+        let set = loops(board, n.people, k);
         board[LOOPS + (k as usize)] = set.word();
-        k += 1;
     }
 }
 
@@ -175,43 +151,32 @@ fn put_loops(board: &mut [u32; PLACES], people: u8, kinds: u8)
 fn put_allowed(
     board: &mut [u32; PLACES],
     held: &[u16; Case::PEOPLE],
-    people: u8,
     steps: [StepEntry; Case::STEPS],
-    n: u8,
+    n: Sizes,
 )
-    requires { (people ≤ most_people) × (n ≤ most_steps) }
-    ensures { board.new ≡ laid_from allowed_from n (λ s. allowed_in held.now people (get_or steps s zero_step).roles) board.old }
+    ensures { board.new ≡ laid_from allowed_from n.steps (λ s. allowed_in held.now n.people (get_or steps s zero_step).roles) board.old }
 {
-    let mut s: u8 = 0;
-    while s < n {
+    put(board, ALLOWED, n.steps, |s| {
         let step = steps[s as usize];
-        board[ALLOWED + (s as usize)] = allowed(held, people, step.roles).word();
-        s += 1;
-    }
+        allowed(held, n.people, step.roles).word()
+    });
 }
 
 // For each step the rules that name it.
 fn put_named(board: &mut [u32; PLACES], named: &[u32; Case::STEPS])
     ensures { board.new ≡ laid_from named_from most_steps (λ s. get_or named.now s 0) board.old }
 {
-    let mut s: u8 = 0;
-    while (s as usize) < Case::STEPS {
-        board[NAMED + (s as usize)] = named[s as usize];
-        s += 1;
-    }
+    put(board, NAMED, Case::STEPS as u8, |s| named[s as usize]);
 }
 
 // The rules, each as one number.
-fn put_rules(board: &mut [u32; PLACES], rules: [Rule; Case::RULES], n: u8)
-    requires { n ≤ most_rules }
-    ensures { board.new ≡ laid_from rules_from n (λ i. packed (get_or rules i zero_rule)) board.old }
+fn put_rules(board: &mut [u32; PLACES], rules: [Rule; Case::RULES], n: Sizes)
+    ensures { board.new ≡ laid_from rules_from n.rules (λ i. packed (get_or rules i zero_rule)) board.old }
 {
-    let mut i: u8 = 0;
-    while i < n {
+    put(board, RULES, n.rules, |i| {
         let rule = rules[i as usize];
-        board[RULES + (i as usize)] = pack(rule);
-        i += 1;
-    }
+        pack(rule)
+    });
 }
 
 // A table by halves, from a place on: `waits` has for each step those that wait for it, of all that there are.
@@ -219,9 +184,21 @@ fn put_halves(board: &mut [u32; PLACES], start: u16, waits: &[u32; Case::STEPS],
     requires { start + halves ≤ places }
     ensures { board.new ≡ laid_from start halves (half_in waits.now whole) board.old }
 {
-    let mut j: u8 = 0;
-    while (j as usize) < HALVES {
-        board[(start as usize) + (j as usize)] = half(waits, whole, j);
-        j += 1;
+    put(
+        board,
+        start as usize,
+        HALVES as u8,
+        |j| half(waits, whole, j),
+    );
+}
+
+// Puts n entries, from a place on. A closure makes each of them.
+fn put<const N: usize, F: Fn(u8) -> u32>(out: &mut [u32; N], start: usize, n: u8, entry: F)
+    requires room { start + n ≤ N }
+    requires callable { (i : ℕ) → i < n → F.pre entry i }
+    ensures { (f : ℕ → ℕ) → ((i : ℕ) → i < n → (told : ℕ) → F.post entry i told → told ≡ f i) → out.new ≡ laid_from start n f out.old }
+{
+    for i in 0..n {
+        out[start + (i as usize)] = entry(i);
     }
 }

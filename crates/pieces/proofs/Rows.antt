@@ -72,3 +72,7 @@ module _ (test : ℕ → Bool) (w n : ℕ) where
 
   pub among-end : {u set : ℕ} → Collected among w u set → n ≤ u → set ≡ set_of among w
   among-end {u} {set} g h = collect-end among w g (λ v l k. ap (λ (d : Bool). d && test v) (le-ltb v n (omega arith)))
+
+-- everybody is among all that there is room for
+pub whole_width : (test : ℕ → Bool) → set_of (λ u. ltb u width && test u) width ≡ set_of test width
+whole_width test = set_of-ext _ _ width (λ u l. ap (λ (d : Bool). d && test u) (lt-ltb u width l))

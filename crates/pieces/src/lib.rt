@@ -3,16 +3,16 @@
 // gathered from.
 #![tactic(auto)]
 
-ghost use Rattle.std.specs.Prelude.{◌≡◌, ◌≤◌, ◌<◌};
+ghost use Rattle.std.specs.Prelude.{◌≡◌, ◌≤◌, ◌<◌, ◌&&◌, ℕ, Bool, ltb};
 ghost use Rattle.sets.specs.Lists.{pick};
-ghost use Rattle.sets.specs.Sets.{has, with, difference, everybody};
-ghost use Rattle.sets.specs.Stored.{width, number};
+ghost use Rattle.sets.specs.Sets.{has, set_of, with, difference, everybody};
+ghost use Rattle.sets.specs.Stored.{width, number, set_at};
 ghost use Rattle.words.specs.Part.{table};
 ghost use Rattle.cases.specs.Case.{most_people, most_steps, most_rules};
-ghost use Rattle.boards.specs.Board.{halves};
+ghost use Rattle.boards.specs.Board.{halves, row_place};
 ghost use Rattle.pieces.specs.Pieces.{row_in, gathered_in, column_in, having_in, loops_in, allowed_in, preceding_in, named_by, preceded_by, waits_in, waiting_on, half_in, laid_from, packed};
 
-use boards::{HALF_SETS, HALF_STEPS, PLACES};
+use boards::{HALF_SETS, HALF_STEPS, PLACES, less};
 use cases::{Case, Rule, StepEntry, with_step};
 use sets::{People, holds, share, with};
 
@@ -42,7 +42,7 @@ pub fn column(board: &[u32; PLACES], k: u8, v: u8) -> People
     ensures { number result ≡ column_in board.now k v }
 {
     if k < 2 {
-        return People::at(board, (k as usize) * Case::PEOPLE + (v as usize));
+        return row_on(board, k, v);
     }
     gathered(board, k, v)
 }
@@ -51,14 +51,7 @@ pub fn column(board: &[u32; PLACES], k: u8, v: u8) -> People
 fn gathered(board: &[u32; PLACES], k: u8, v: u8) -> People
     ensures { number result ≡ gathered_in board.now k v }
 {
-    let mut set = People::none();
-    let mut u: u8 = 0;
-    while (u as usize) < Case::PEOPLE {
-        let row = People::at(board, (k as usize) * Case::PEOPLE + (u as usize));
-        set = with_if(set, u, row.has(v));
-        u += 1;
-    }
-    set
+    passing(Case::PEOPLE as u8, |u| row_on(board, k, u).has(v))
 }
 
 // The people who are in relation k with themselves: everybody is the same person, nobody a different one, and the tables say it by their rows.
@@ -76,14 +69,14 @@ pub fn loops(board: &[u32; PLACES], people: u8, k: u8) -> People
 fn having_themselves(board: &[u32; PLACES], k: u8) -> People
     ensures { number result ≡ having_in board.now k }
 {
-    let mut set = People::none();
-    let mut u: u8 = 0;
-    while (u as usize) < Case::PEOPLE {
-        let own = People::at(board, (k as usize) * Case::PEOPLE + (u as usize));
-        set = with_if(set, u, own.has(u));
-        u += 1;
-    }
-    set
+    passing(Case::PEOPLE as u8, |u| row_on(board, k, u).has(u))
+}
+
+// The row of person u in relation k, as it stands on a board.
+fn row_on(board: &[u32; PLACES], k: u8, u: u8) -> People
+    ensures { number result ≡ set_at board.now (row_place k u) }
+{
+    People::at(board, (k as usize) * Case::PEOPLE + (u as usize))
 }
 
 // The people one of whose roles is wanted.
@@ -91,28 +84,31 @@ pub fn allowed(held: &[u16; Case::PEOPLE], people: u8, wanted: u16) -> People
     requires { people ≤ most_people }
     ensures { number result ≡ allowed_in held.now people wanted }
 {
+    passing(people, |u| share(held[u as usize], wanted))
+}
+
+// Of the first n people those who pass a test.
+fn passing<F: Fn(u8) -> bool>(n: u8, test: F) -> People
+    requires few { n ≤ most_people }
+    requires callable { (u : ℕ) → u < n → F.pre test u }
+    ensures { (passes : ℕ → Bool) → ((u : ℕ) → u < n → (told : Bool) → F.post test u told → told ≡ passes u) → number result ≡ set_of (λ u. ltb u n && passes u) width }
+{
     let mut set = People::none();
-    let mut u: u8 = 0;
-    while u < people {
-        set = with_if(set, u, share(held[u as usize], wanted));
-        u += 1;
+    for u in 0..n {
+        set = with_if(set, u, test(u));
     }
     set
 }
 
-// For each step those of the first n rules that name it.
+// For each step those of the first n rules that name it. An array and how many are in use, as a case holds them; so it is with steps and people.
 pub fn named_words(rules: [Rule; Case::RULES], n: u8) -> [u32; Case::STEPS]
     requires { n ≤ most_rules }
     ensures { result ≡ table (waits_in (named_by rules) n) most_steps }
 {
-    let mut out = [0u32; Case::STEPS];
-    let mut i: u8 = 0;
-    while i < n {
+    waiters(n, |i| {
         let rule = rules[i as usize];
-        wait(&mut out, with_step(rule.group, rule.step), i);
-        i += 1;
-    }
-    out
+        with_step(rule.group, rule.step)
+    })
 }
 
 // For each step those of the first n steps that it must precede.
@@ -120,12 +116,21 @@ pub fn following_words(steps: [StepEntry; Case::STEPS], order: Order, n: u8) -> 
     requires { n ≤ most_steps }
     ensures { result ≡ table (waits_in (preceded_by steps order) n) most_steps }
 {
-    let mut out = [0u32; Case::STEPS];
-    let mut s: u8 = 0;
-    while s < n {
+    waiters(n, |s| {
         let entry = steps[s as usize];
-        wait(&mut out, before(entry, order, s), s);
-        s += 1;
+        before(entry, order, s)
+    })
+}
+
+// For each step those of the first n that wait for it. A closure tells the steps that each waits for.
+fn waiters<F: Fn(u8) -> u8>(n: u8, on: F) -> [u32; Case::STEPS]
+    requires few { n ≤ most_rules }
+    requires callable { (i : ℕ) → i < n → F.pre on i }
+    ensures { (steps : ℕ → ℕ) → ((i : ℕ) → i < n → (told : ℕ) → F.post on i told → told ≡ steps i) → result ≡ table (waits_in steps n) most_steps }
+{
+    let mut out = [0u32; Case::STEPS];
+    for i in 0..n {
+        wait(&mut out, on(i), i);
     }
     out
 }
@@ -134,10 +139,8 @@ pub fn following_words(steps: [StepEntry; Case::STEPS], order: Order, n: u8) -> 
 fn wait(waits: &mut [u32; Case::STEPS], on: u8, i: u8)
     ensures { waits.new ≡ laid_from 0 most_steps (waiting_on waits.old on i) waits.old }
 {
-    let mut x: u8 = 0;
-    while (x as usize) < Case::STEPS {
-        waits[x as usize] = with_if_in(waits[x as usize], i, on, x);
-        x += 1;
+    for x in 0..Case::STEPS {
+        waits[x] = with_if_in(waits[x], i, on, x as u8);
     }
 }
 
@@ -168,10 +171,8 @@ pub fn half(waits: &[u32; Case::STEPS], whole: u32, j: u8) -> u32
 {
     let first = j / (HALF_SETS as u8) * (HALF_STEPS as u8);
     let mut set = whole;
-    let mut x: u8 = 0;
-    while (x as usize) < HALF_STEPS {
+    for x in 0..(HALF_STEPS as u8) {
         set = less_unless(set, waits[(first + x) as usize], holds(j as u16, x));
-        x += 1;
     }
     set
 }
@@ -207,11 +208,4 @@ fn less_unless(set: u32, gone: u32, stay: bool) -> u32
     ensures { result ≡ pick stay set (difference most_rules set gone) }
 {
     if stay { set } else { less(set, gone) }
-}
-
-// The set without those that are gone.
-fn less(set: u32, gone: u32) -> u32
-    ensures { result ≡ difference most_rules set gone }
-{
-    set & !gone
 }

@@ -1,16 +1,9 @@
 -- The invariant: the entries before i are placed.
-use native.Mathlib.Omega.{arith}
 use Rattle.asking.proofs.Steps.{placed-start, placed-step, placed-all}
 use Rattle.asking.proofs.filled.Goals as goal
 
 pub loop-i-init : goal.loop-i-init
 loop-i-init c = placed-start _ c.start-q.ensures
-
-pub overflow_add-i : goal.overflow_add-i
-overflow_add-i c = omega arith
-
-pub loop-i-smaller : goal.loop-i-smaller
-loop-i-smaller c = omega arith
 
 pub loop-i-preserved : goal.loop-i-preserved
 loop-i-preserved c = placed-step _ c.loop-i.invariant c.loop-i-test.true c.person.ensures c.placed-q.ensures

@@ -1,10 +1,6 @@
 -- The invariant: the entries before i are placed.
-use Prim.Native.Nat.{◌-◌}
 use Rattle.asking.proofs.Steps.{Placed}
 use Rattle.asking.proofs.filled.Given as goal
 
 abbrev pub invariant-loop-i : goal.invariant-loop-i
 invariant-loop-i l = Placed l.p l.i l.q
-
-abbrev pub decreases-loop-i : goal.decreases-loop-i
-decreases-loop-i l = l.p.len - l.i

@@ -1,5 +1,4 @@
 -- The invariant: the entries passed are those of the shorter position, and none of them failed.
-use native.Mathlib.Omega.{arith}
 use Rattle.asking.proofs.Steps.{passed_start, passed-step, position-long, position-hit, position-end}
 use Rattle.asking.proofs.judge_position.Goals as goal
 
@@ -13,12 +12,6 @@ pub returns-then-bad_next : goal.returns-then-bad_next
 returns-then-bad_next c =
     position-hit _ _ _ _ c.if-steps-len.false c.loop-i.invariant c.loop-i-test.true c.person-v.ensures
     c.bad_next.ensures c.if-bad_next.true
-
-pub overflow_add-i : goal.overflow_add-i
-overflow_add-i c = omega arith
-
-pub loop-i-smaller : goal.loop-i-smaller
-loop-i-smaller c = omega arith
 
 pub loop-i-preserved : goal.loop-i-preserved
 loop-i-preserved c =

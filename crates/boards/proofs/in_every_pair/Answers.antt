@@ -9,22 +9,22 @@ use Rattle.boards.proofs.in_every_pair.Goals as goal
 
 pub loop-x-init : goal.loop-x-init
 unfolding number
-loop-x-init c = narrowed-start _ _ _ _ (omega arith) c.lowest_in-x.ensures
+loop-x-init c = narrowed-start _ _ _ (omega arith)
 
 pub returns-then-is_none : goal.returns-then-is_none
 returns-then-is_none c =
     every-pair _ _ _ _ (omega arith) _ c.everybody_if-every.ensures _
-    (narrowed_none _ c.loop-x.invariant c.loop-x-test.true c.common-every.result (by-common _ _ _ _ (pair-here _ _ _ _ _ _ _ c.pair.ensures) c.common-every.ensures)
+    (narrowed_none _ c.loop-x.invariant (sym c.in-Some.ensures) c.common-every.result (by-common _ _ _ _ (pair-here _ _ _ _ _ _ _ c.pair.ensures) c.common-every.ensures)
     (eqb-true _ _ (sym c.is_none.ensures ∙ c.if-is_none.true)))
 
 pub loop-x-smaller : goal.loop-x-smaller
 loop-x-smaller c =
-    over-less c.loop-x.invariant.over c.loop-x-test.true _ c.without-left.ensures
+    over-less _ _ (sym c.in-Some.ensures) _ c.without-left.ensures
 
 pub loop-x-preserved : goal.loop-x-preserved
 loop-x-preserved c =
-    narrowed-step _ c.loop-x.invariant c.loop-x-test.true _ _ c.common-every.result c.without-left.ensures c.lowest_in-x-in-loop-x.ensures
+    narrowed-step _ c.loop-x.invariant (sym c.in-Some.ensures) _ c.common-every.result c.without-left.ensures
     (by-common _ _ _ _ (pair-here _ _ _ _ _ _ _ c.pair.ensures) c.common-every.ensures)
 
 pub returns : goal.returns
-returns c = every-pair _ _ _ _ (omega arith) _ c.everybody_if-every.ensures _ (narrowed-end _ c.loop-x.invariant c.loop-x-test.false)
+returns c = every-pair _ _ _ _ (omega arith) _ c.everybody_if-every.ensures _ (narrowed-end _ c.loop-x.invariant (sym c.in_default.ensures))

@@ -9,7 +9,7 @@ use Rattle.boards.proofs.narrowed.Given as goal
 
 abbrev pub invariant-loop-i : goal.invariant-loop-i
 invariant-loop-i l =
-    (q : Filled) → Agree l.looked l.p q → Narrowed (due_test l.board q l.s.0) (number l.initial.kept) l.due l.left l.i l.kept
+    (q : Filled) → Agree l.looked l.p q → Narrowed (due_test l.board q l.s.0) (number l.initial.kept) l.due l.left l.kept
 
 abbrev pub decreases-loop-i : goal.decreases-loop-i
 decreases-loop-i l = size 32 l.left

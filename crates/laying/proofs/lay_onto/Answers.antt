@@ -1,11 +1,6 @@
-use Rattle.laying.proofs.Laying.{rows_few, laid}
+use Rattle.laying.proofs.Laying.{laid}
 use native.Mathlib.Omega.{arith}
-use borrow.Author.Rules.{rules}
 use Rattle.laying.proofs.lay_onto.Goals as goal
-
-pub put_table_words-requires : goal.put_table_words-requires
-put_table_words-requires c =
-    omega (arith, c.sizes_of-n.ensures.rows, rows_few c.args.c.counts.tables c.args.c.counts.people c.requires.0.tables c.requires.0.people)
 
 pub first_of-requires : goal.first_of-requires
 first_of-requires c =

@@ -4,7 +4,6 @@ use lib.ListN.{get_or}
 use Rattle.sets.specs.Stored.{number, no_people}
 use Rattle.pieces.specs.Pieces.{laid_from}
 use Rattle.pieces.proofs.Writing.{from_start}
-use borrow.Author.Rules.{rules}
 use Rattle.laying.proofs.put_table_words.Goals as goal
 
 pub returns-then-n-eq0 : goal.returns-then-n-eq0

@@ -1,3 +1,4 @@
+use native.Mathlib.Omega.{arith}
 use mathlib.Core.Path.{ap, ◌∙◌}
 use Rattle.sets.specs.Stored.{number}
 use Rattle.sets.proofs.Records.{number-none}
@@ -11,4 +12,4 @@ pub returns-in-1 : goal.returns-in-1
 returns-in-1 c = loops-different _ _ _ _ c.in-1.is (ap number c.none.ensures ∙ number-none)
 
 pub returns-in_default : goal.returns-in_default
-returns-in_default c = loops-table _ _ _ _ c.in_default.in_default-own.rest.0.1 c.in_default.in_default-own.rest.1 c.having_themselves.ensures
+returns-in_default c = grind (arith, loops-table)
