@@ -15,38 +15,35 @@ ghost use Rattle.games.specs.Limit.{cut};
 ghost use Rattle.boards.specs.Arena.{board_arena};
 ghost use Rattle.tries.specs.Outcomes.{advised_outcome};
 
-use boards::PLACES;
+use boards::Board;
 use cases::{Filled, Person};
 use lines::{Cursor, next_move};
 use rounds::dynamic_from;
 use sets::{People, holds};
 use tries::{
-    Advised, Spent, Try, Verdict, behind, line_up, lines_up, next_step, next_try, rest_alike,
-    several,
+    Advised, Try, Verdict, behind, line_up, lines_up, next_step, next_try, rest_alike, several,
 };
 
 // The first good move of the lowest present person who has one.
 pub fn advice_walk(
-    board: &[u32; PLACES],
-    people: u8,
+    board: &Board,
     t: u32,
     absent: People,
     p: Filled,
     left: u8,
     limit: u32,
 ) -> Advised
-    requires { people ≤ 32 }
-    ensures { advised_outcome limit result ≡ cut limit (advice (board_arena board.now people) t left (number absent) p) }
+    ensures { advised_outcome limit result ≡ cut limit (advice (board_arena board.now.words board.now.people) t left (number absent) p) }
 {
     if left == 0 {
         return Advised::Nobody(0);
     }
-    if several(board, p) {
-        return advice_choice(board, people, t, absent, p, left, limit);
+    if several(&board.words, p) {
+        return advice_choice(board, t, absent, p, left, limit);
     }
-    let step = next_step(board, p);
-    let lined = line_up(board, people, absent, p, step);
-    let mut line = lined.line;
+    let step = next_step(&board.words, p);
+    let lined = line_up(&board.words, board.people, absent, p, step);
+    let mut line = lined.value;
     let mut used: u32 = 0;
     loop {
         match next_try(line, used, limit) {
@@ -56,18 +53,10 @@ pub fn advice_walk(
             Try::Nobody(trials) => {
                 return Advised::Nobody(trials);
             }
-            Try::Person(v, trials) => {
-                let sub = dynamic_from(
-                    board,
-                    people,
-                    t,
-                    p.placed(step, v),
-                    left - 1,
-                    limit - trials,
-                );
+            Try::Move(v, trials) => {
+                let sub = dynamic_from(board, t, p.placed(step, v), left - 1, limit - trials);
                 let asked = holds(sub.looked as u16, step.0);
-                let verdict = sub.verdict;
-                match verdict {
+                match sub.value {
                     Verdict::Limit => {
                         return Advised::Limit;
                     }
@@ -79,10 +68,10 @@ pub fn advice_walk(
                         line = behind(line, v);
                         if !asked {
                             match rest_alike(line, used, more, limit) {
-                                Spent::Limit => {
+                                None => {
                                     return Advised::Limit;
                                 }
-                                Spent::All(all) => {
+                                Some(all) => {
                                     return Advised::Nobody(all);
                                 }
                             }
@@ -94,46 +83,28 @@ pub fn advice_walk(
     }
 }
 
-// The same, where the desk may choose its step.
-fn advice_choice(
-    board: &[u32; PLACES],
-    people: u8,
-    t: u32,
-    absent: People,
-    p: Filled,
-    left: u8,
-    limit: u32,
-) -> Advised
-    requires { (0 < left) × (people ≤ 32) }
-    ensures { advised_outcome limit result ≡ cut limit (advice (board_arena board.now people) t left (number absent) p) }
+// The same, where the desk may choose its step. A step is left, as a clause says: see `plan_choice` of `plans`.
+fn advice_choice(board: &Board, t: u32, absent: People, p: Filled, left: u8, limit: u32) -> Advised
+    requires { 0 < left }
+    ensures { advised_outcome limit result ≡ cut limit (advice (board_arena board.now.words board.now.people) t left (number absent) p) }
 {
-    let choices = lines_up(board, people, p);
-    let lines = choices.lines.without(absent);
+    let choices = lines_up(&board.words, board.people, p);
+    let lines = choices.value.without(absent);
     let mut at = Cursor { person: 0, line: 0 };
     let mut used: u32 = 0;
     loop {
         match next_move(lines, at, used, limit) {
-            lines::Try::Limit => {
+            Try::Limit => {
                 return Advised::Limit;
             }
-            lines::Try::Nobody(trials) => {
+            Try::Nobody(trials) => {
                 return Advised::Nobody(trials);
             }
-            lines::Try::Move(m, trials) => {
-                let here = m.line;
-                let line = lines.lines[here as usize];
-                let step = line.step;
+            Try::Move(m, trials) => {
+                let step = lines.lines[m.line as usize].step;
                 let v = Person(m.person);
-                let sub = dynamic_from(
-                    board,
-                    people,
-                    t,
-                    p.placed(step, v),
-                    left - 1,
-                    limit - trials,
-                );
-                let verdict = sub.verdict;
-                match verdict {
+                let sub = dynamic_from(board, t, p.placed(step, v), left - 1, limit - trials);
+                match sub.value {
                     Verdict::Limit => {
                         return Advised::Limit;
                     }

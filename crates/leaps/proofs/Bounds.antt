@@ -52,11 +52,8 @@ free-nobody n s l e = record { within = le_refl n; nobody = λ h u k. at u (dec_
     at u (yes k) = lowest-nobody width s e u k
     at u (no k) = has-beyond width s u l (omega arith)
 
-pub free-low : (n s : ℕ) → Free n s 0
-free-low n s = record { within = omega arith; nobody = λ h u k. absurd (omega arith) }
-
-pub free-some : (n s v : ℕ) → s < 2 ^ n → lowest width s ≡ some v → 0 < v → Free n s (v - 1)
-free-some n s v l e h =
+pub free-at : (n s v h : ℕ) → s < 2 ^ n → lowest width s ≡ some v → h ≡ v - 1 → Free n s h
+free-at n s v h l e q =
     record {
       within = omega (arith, has-lt n s v l (lowest-some width s v e).1);
       nobody = λ i u k. lowest-least width s v e u (omega arith);

@@ -22,101 +22,92 @@ ghost use Rattle.tries.specs.Outcomes.{verdict_outcome, turn_outcome, beats_on, 
 ghost use Rattle.tries.specs.Trying.{step_on, Alone, LinedUp};
 ghost use Rattle.tries.specs.Choices.{LinesUp};
 
-use boards::PLACES;
+use boards::Board;
 use cases::{Case, Filled, Person, Step, joined_steps};
-use lines::{Cursor, next_move};
+use lines::{Cursor, Lines, next_move};
 use plans::without_plan;
-use reckoning::{Reckoned, away_trials, tell};
-use sets::{Next, People, holds};
+use reckoning::{away_trials, tell};
+use sets::{People, holds};
 use tries::{
-    Choices, Lined, Spent, Try, Turn, Turned, Verdict, Walked, behind, line_up, lines_up,
-    next_step, next_try, rest_alike, several, without,
+    Line, Looked, Try, Turn, Verdict, behind, line_up, lines_up, next_step, next_try, rest_alike,
+    several, without,
 };
 
 // A turn of fewer trials ends sooner than they are reckoned.
 const WORTH: u32 = 64;
 
 // No turn but one at the highest limit has so many.
-const NEVER: u32 = 4294967295;
+const NEVER: u32 = u32::MAX;
 
 // A turn of the away side: it goes over the sets of at most t people that contain those away, and stops at the first that beats the desk. The position
 // is lined up once for all of them. Where the trials of all sets can be reckoned, that is the answer; it may hang on who fills any step.
-pub fn away_turn(
-    board: &[u32; PLACES],
-    people: u8,
-    t: u32,
-    away: People,
-    p: Filled,
-    left: u8,
-    limit: u32,
-) -> Verdict
-    requires { (people ≤ 32) × (number away < 2 ^ people) × (size people (number away) ≤ t) }
-    ensures { verdict_outcome limit result ≡ cut limit (decremental (board_arena board.now people) t left (number away) p) }
+// That those away are at most t of the people stands in clauses: it ties a set, t and the board, and a struct of the three would be made anew for each set.
+pub fn away_turn(board: &Board, t: u32, away: People, p: Filled, left: u8, limit: u32) -> Verdict
+    requires { (number away < 2 ^ board.now.people) × (size board.now.people (number away) ≤ t) }
+    ensures { verdict_outcome limit result ≡ cut limit (decremental (board_arena board.now.words board.now.people) t left (number away) p) }
 {
-    away_from(board, people, t, away, p, left, limit).verdict
+    away_from(board, t, away, p, left, limit).value
 }
 
 // The same, with the steps looked at.
 #[cycle(away_choice_away_from_desk_choice_desk_turn)]
 fn away_from(
-    board: &[u32; PLACES],
-    people: u8,
+    board: &Board,
     t: u32,
     away: People,
     p: Filled,
     left: u8,
     limit: u32,
-) -> Walked
-    requires { (people ≤ 32) × (number away < 2 ^ people) × (size people (number away) ≤ t) }
-    ensures { Tells (decremental (board_arena board.now people) t left (number away)) limit p result.looked (verdict_outcome limit result.verdict) }
+) -> Looked<Verdict>
+    requires { (number away < 2 ^ board.now.people) × (size board.now.people (number away) ≤ t) }
+    ensures { Tells (decremental (board_arena board.now.words board.now.people) t left (number away)) limit p result.looked (verdict_outcome limit result.value) }
 {
     if left == 0 {
-        return Walked {
-            verdict: Verdict::Yes(0),
+        return Looked {
+            value: Verdict::Yes(0),
             looked: 0,
         };
     }
     if away.size() == t {
-        return all_gone(board, people, away, p, left, limit);
+        return all_gone(board, away, p, left, limit);
     }
-    if several(board, p) {
-        return away_choice(board, people, t, away, p, left, limit);
+    if several(&board.words, p) {
+        return away_choice(board, t, away, p, left, limit);
     }
-    let step = next_step(board, p);
-    let lined = line_up(board, people, People::none(), p, step);
+    let step = next_step(&board.words, p);
+    let lined = line_up(&board.words, board.people, People::none(), p, step);
     let mut looked: u8 = 0;
     let mut gone = away;
     let mut used: u32 = 0;
     let mut reckon_from = WORTH;
     loop {
-        let turned = desk_turn(board, people, t, gone, p, step, lined, left, limit - used);
+        let turned = desk_turn(board, t, gone, p, step, lined, left, limit - used);
         looked = joined_steps(looked, turned.looked);
-        let turn = turned.turn;
-        match turn {
+        match turned.value {
             Turn::Limit => {
-                return Walked {
-                    verdict: Verdict::Limit,
-                    looked: looked,
+                return Looked {
+                    value: Verdict::Limit,
+                    looked,
                 };
             }
             Turn::Beaten(trials) => {
-                return Walked {
-                    verdict: Verdict::No(gone, used + trials),
-                    looked: looked,
+                return Looked {
+                    value: Verdict::No(gone, used + trials),
+                    looked,
                 };
             }
             Turn::Holds(trials) => {
                 used += trials;
             }
         }
-        match gone.next(people, t, away) {
-            Next::Set(larger) => {
+        match gone.next(board.people, t, away) {
+            Some(larger) => {
                 gone = larger;
             }
-            Next::Nothing => {
-                return Walked {
-                    verdict: Verdict::Yes(used),
-                    looked: looked,
+            None => {
+                return Looked {
+                    value: Verdict::Yes(used),
+                    looked,
                 };
             }
         }
@@ -124,77 +115,63 @@ fn away_from(
             continue;
         }
         reckon_from = NEVER;
-        match away_trials(board, people, t, away, p, left, limit) {
-            Reckoned::Sum(trials, _) => {
-                let verdict = tell(trials, limit);
-                return Walked {
-                    verdict: verdict,
-                    looked: Case::ALL_STEPS,
-                };
-            }
-            Reckoned::Lost => {}
+        if let Some(reckoned) = away_trials(board, t, away, p, left, limit) {
+            return Looked {
+                value: tell(reckoned.trials, limit),
+                looked: Case::ALL_STEPS,
+            };
         }
     }
 }
 
 // A turn of the desk with some people away, who are taken off the position's line: it stops at the first person who leaves a position from which the
-// away side cannot win.
+// away side cannot win. A step is left, as a clause says: see `plan_choice` of `plans`.
 #[cycle(away_choice_away_from_desk_choice_desk_turn)]
 fn desk_turn(
-    board: &[u32; PLACES],
-    people: u8,
+    board: &Board,
     t: u32,
     away: People,
     p: Filled,
     step: Step,
-    lined: Lined,
+    lined: Looked<Line>,
     left: u8,
     limit: u32,
-) -> Turned
-    requires { (0 < left) × (people ≤ 32) × (number away < 2 ^ people) × (size people (number away) ≤ t) × (step.0 ≡ step_on board.now p) × Alone board.now p × LinedUp board.now people 0 p lined }
-    ensures { Tells (λ q. beats_on board.now people t (left - 1) q (number away)) limit p result.looked (turn_outcome limit (number away) result.turn) }
+) -> Looked<Turn>
+    requires { (0 < left) × (number away < 2 ^ board.now.people) × (size board.now.people (number away) ≤ t) × (step.0 ≡ step_on board.now.words p) × Alone board.now.words p × LinedUp board.now.words board.now.people 0 p lined }
+    ensures { Tells (λ q. beats_on board.now.words board.now.people t (left - 1) q (number away)) limit p result.looked (turn_outcome limit (number away) result.value) }
 {
     let mut looked = lined.looked;
-    let mut line = without(lined.line, away);
+    let mut line = without(lined.value, away);
     let mut used: u32 = 0;
     loop {
         match next_try(line, used, limit) {
             Try::Limit => {
-                return Turned {
-                    turn: Turn::Limit,
-                    looked: looked,
+                return Looked {
+                    value: Turn::Limit,
+                    looked,
                 };
             }
             Try::Nobody(trials) => {
-                return Turned {
-                    turn: Turn::Beaten(trials),
-                    looked: looked,
+                return Looked {
+                    value: Turn::Beaten(trials),
+                    looked,
                 };
             }
-            Try::Person(v, trials) => {
-                let sub = away_from(
-                    board,
-                    people,
-                    t,
-                    away,
-                    p.placed(step, v),
-                    left - 1,
-                    limit - trials,
-                );
+            Try::Move(v, trials) => {
+                let sub = away_from(board, t, away, p.placed(step, v), left - 1, limit - trials);
                 looked = joined_steps(looked, sub.looked);
                 let asked = holds(sub.looked as u16, step.0);
-                let verdict = sub.verdict;
-                match verdict {
+                match sub.value {
                     Verdict::Limit => {
-                        return Turned {
-                            turn: Turn::Limit,
-                            looked: looked,
+                        return Looked {
+                            value: Turn::Limit,
+                            looked,
                         };
                     }
                     Verdict::Yes(more) => {
-                        return Turned {
-                            turn: Turn::Holds(trials + more),
-                            looked: looked,
+                        return Looked {
+                            value: Turn::Holds(trials + more),
+                            looked,
                         };
                     }
                     Verdict::No(_, more) => {
@@ -202,16 +179,16 @@ fn desk_turn(
                         line = behind(line, v);
                         if !asked {
                             match rest_alike(line, used, more, limit) {
-                                Spent::Limit => {
-                                    return Turned {
-                                        turn: Turn::Limit,
-                                        looked: looked,
+                                None => {
+                                    return Looked {
+                                        value: Turn::Limit,
+                                        looked,
                                     };
                                 }
-                                Spent::All(all) => {
-                                    return Turned {
-                                        turn: Turn::Beaten(all),
-                                        looked: looked,
+                                Some(all) => {
+                                    return Looked {
+                                        value: Turn::Beaten(all),
+                                        looked,
                                     };
                                 }
                             }
@@ -226,50 +203,48 @@ fn desk_turn(
 // The away side's turn, where the desk may choose its step.
 #[cycle(away_choice_away_from_desk_choice_desk_turn)]
 fn away_choice(
-    board: &[u32; PLACES],
-    people: u8,
+    board: &Board,
     t: u32,
     away: People,
     p: Filled,
     left: u8,
     limit: u32,
-) -> Walked
-    requires { (0 < left) × (people ≤ 32) × (number away < 2 ^ people) × (size people (number away) ≤ t) }
-    ensures { Tells (decremental (board_arena board.now people) t left (number away)) limit p result.looked (verdict_outcome limit result.verdict) }
+) -> Looked<Verdict>
+    requires { (0 < left) × (number away < 2 ^ board.now.people) × (size board.now.people (number away) ≤ t) }
+    ensures { Tells (decremental (board_arena board.now.words board.now.people) t left (number away)) limit p result.looked (verdict_outcome limit result.value) }
 {
-    let choices = lines_up(board, people, p);
+    let choices = lines_up(&board.words, board.people, p);
     let mut looked: u8 = 0;
     let mut gone = away;
     let mut used: u32 = 0;
     loop {
-        let turned = desk_choice(board, people, t, gone, p, choices, left, limit - used);
+        let turned = desk_choice(board, t, gone, p, choices, left, limit - used);
         looked = joined_steps(looked, turned.looked);
-        let turn = turned.turn;
-        match turn {
+        match turned.value {
             Turn::Limit => {
-                return Walked {
-                    verdict: Verdict::Limit,
-                    looked: looked,
+                return Looked {
+                    value: Verdict::Limit,
+                    looked,
                 };
             }
             Turn::Beaten(trials) => {
-                return Walked {
-                    verdict: Verdict::No(gone, used + trials),
-                    looked: looked,
+                return Looked {
+                    value: Verdict::No(gone, used + trials),
+                    looked,
                 };
             }
             Turn::Holds(trials) => {
                 used += trials;
             }
         }
-        match gone.next(people, t, away) {
-            Next::Set(larger) => {
+        match gone.next(board.people, t, away) {
+            Some(larger) => {
                 gone = larger;
             }
-            Next::Nothing => {
-                return Walked {
-                    verdict: Verdict::Yes(used),
-                    looked: looked,
+            None => {
+                return Looked {
+                    value: Verdict::Yes(used),
+                    looked,
                 };
             }
         }
@@ -279,43 +254,39 @@ fn away_choice(
 // The desk's turn, where it may choose its step: those away are taken off the position's lines.
 #[cycle(away_choice_away_from_desk_choice_desk_turn)]
 fn desk_choice(
-    board: &[u32; PLACES],
-    people: u8,
+    board: &Board,
     t: u32,
     away: People,
     p: Filled,
-    choices: Choices,
+    choices: Looked<Lines>,
     left: u8,
     limit: u32,
-) -> Turned
-    requires { (0 < left) × (people ≤ 32) × (number away < 2 ^ people) × (size people (number away) ≤ t) × LinesUp board.now people p choices }
-    ensures { Tells (λ q. beats_on board.now people t (left - 1) q (number away)) limit p result.looked (turn_outcome limit (number away) result.turn) }
+) -> Looked<Turn>
+    requires { (0 < left) × (number away < 2 ^ board.now.people) × (size board.now.people (number away) ≤ t) × LinesUp board.now.words board.now.people p choices }
+    ensures { Tells (λ q. beats_on board.now.words board.now.people t (left - 1) q (number away)) limit p result.looked (turn_outcome limit (number away) result.value) }
 {
-    let lines = choices.lines.without(away);
+    let lines = choices.value.without(away);
     let mut looked = choices.looked;
     let mut at = Cursor { person: 0, line: 0 };
     let mut used: u32 = 0;
     loop {
         match next_move(lines, at, used, limit) {
-            lines::Try::Limit => {
-                return Turned {
-                    turn: Turn::Limit,
-                    looked: looked,
+            Try::Limit => {
+                return Looked {
+                    value: Turn::Limit,
+                    looked,
                 };
             }
-            lines::Try::Nobody(trials) => {
-                return Turned {
-                    turn: Turn::Beaten(trials),
-                    looked: looked,
+            Try::Nobody(trials) => {
+                return Looked {
+                    value: Turn::Beaten(trials),
+                    looked,
                 };
             }
-            lines::Try::Move(m, trials) => {
-                let here = m.line;
-                let line = lines.lines[here as usize];
-                let step = line.step;
+            Try::Move(m, trials) => {
+                let step = lines.lines[m.line as usize].step;
                 let sub = away_from(
                     board,
-                    people,
                     t,
                     away,
                     p.placed(step, Person(m.person)),
@@ -323,18 +294,17 @@ fn desk_choice(
                     limit - trials,
                 );
                 looked = joined_steps(looked, sub.looked);
-                let verdict = sub.verdict;
-                match verdict {
+                match sub.value {
                     Verdict::Limit => {
-                        return Turned {
-                            turn: Turn::Limit,
-                            looked: looked,
+                        return Looked {
+                            value: Turn::Limit,
+                            looked,
                         };
                     }
                     Verdict::Yes(more) => {
-                        return Turned {
-                            turn: Turn::Holds(trials + more),
-                            looked: looked,
+                        return Looked {
+                            value: Turn::Holds(trials + more),
+                            looked,
                         };
                     }
                     Verdict::No(_, more) => {
@@ -351,32 +321,17 @@ fn desk_choice(
 }
 
 // A turn of the away side with all gone who may go: nobody else can, and the rest is a plan without them.
-fn all_gone(
-    board: &[u32; PLACES],
-    people: u8,
-    away: People,
-    p: Filled,
-    left: u8,
-    limit: u32,
-) -> Walked
-    requires { people ≤ 32 }
-    ensures { Tells (λ q. if_none (number away) (plan (board_arena board.now people) (number away) left q)) limit p result.looked (verdict_outcome limit result.verdict) }
+fn all_gone(board: &Board, away: People, p: Filled, left: u8, limit: u32) -> Looked<Verdict>
+    ensures { Tells (λ q. if_none (number away) (plan (board_arena board.now.words board.now.people) (number away) left q)) limit p result.looked (verdict_outcome limit result.value) }
 {
-    let turned = without_plan(board, people, away, p, left, limit);
-    let looked = turned.looked;
-    let turn = turned.turn;
-    match turn {
-        Turn::Limit => Walked {
-            verdict: Verdict::Limit,
-            looked: looked,
-        },
-        Turn::Beaten(trials) => Walked {
-            verdict: Verdict::No(away, trials),
-            looked: looked,
-        },
-        Turn::Holds(trials) => Walked {
-            verdict: Verdict::Yes(trials),
-            looked: looked,
-        },
+    let turned = without_plan(board, away, p, left, limit);
+    let verdict = match turned.value {
+        Turn::Limit => Verdict::Limit,
+        Turn::Beaten(trials) => Verdict::No(away, trials),
+        Turn::Holds(trials) => Verdict::Yes(trials),
+    };
+    Looked {
+        value: verdict,
+        looked: turned.looked,
     }
 }

@@ -13,27 +13,19 @@ ghost use Rattle.games.specs.Walks.{plan, if_none};
 ghost use Rattle.boards.specs.Arena.{board_arena};
 ghost use Rattle.tries.specs.Outcomes.{turn_outcome, PlanTold, Tells};
 
-use boards::PLACES;
+use boards::Board;
 use cases::{Filled, Person, joined_steps};
 use lines::{Cursor, next_move};
 use sets::{People, holds};
 use tries::{
-    PlanEnd, Planned, Spent, Try, Turn, Turned, behind, line_up, lines_up, next_step, next_try,
+    Looked, PlanEnd, Planned, Try, Turn, behind, line_up, lines_up, next_step, next_try,
     rest_alike, several, up_to, without,
 };
 
 // The first plan from a position, with some people away throughout.
 #[cycle(plan_choice_plan_walk)]
-pub fn plan_walk(
-    board: &[u32; PLACES],
-    people: u8,
-    absent: People,
-    p: Filled,
-    left: u8,
-    limit: u32,
-) -> Planned
-    requires { people ≤ 32 }
-    ensures { PlanTold board.now people (number absent) left limit p result }
+pub fn plan_walk(board: &Board, absent: People, p: Filled, left: u8, limit: u32) -> Planned
+    ensures { PlanTold board.now.words board.now.people (number absent) left limit p result }
 {
     if left == 0 {
         return Planned {
@@ -43,14 +35,14 @@ pub fn plan_walk(
             met: People::none(),
         };
     }
-    if several(board, p) {
-        return plan_choice(board, people, absent, p, left, limit);
+    if several(&board.words, p) {
+        return plan_choice(board, absent, p, left, limit);
     }
-    let step = next_step(board, p);
-    let lined = line_up(board, people, People::none(), p, step);
+    let step = next_step(&board.words, p);
+    let lined = line_up(&board.words, board.people, People::none(), p, step);
     let mut looked = lined.looked;
     let mut met = People::none();
-    let mut line = lined.line;
+    let mut line = lined.value;
     let mut used: u32 = 0;
     loop {
         match next_try(without(line, absent), used, limit) {
@@ -58,7 +50,7 @@ pub fn plan_walk(
                 return Planned {
                     end: PlanEnd::Limit,
                     plan: p,
-                    looked: looked,
+                    looked,
                     met: met.joined(line.tried),
                 };
             }
@@ -66,39 +58,30 @@ pub fn plan_walk(
                 return Planned {
                     end: PlanEnd::No(trials),
                     plan: p,
-                    looked: looked,
+                    looked,
                     met: met.joined(line.tried),
                 };
             }
-            Try::Person(v, trials) => {
-                let sub = plan_walk(
-                    board,
-                    people,
-                    absent,
-                    p.placed(step, v),
-                    left - 1,
-                    limit - trials,
-                );
+            Try::Move(v, trials) => {
+                let sub = plan_walk(board, absent, p.placed(step, v), left - 1, limit - trials);
                 looked = joined_steps(looked, sub.looked);
                 met = met.joined(up_to(line, v).joined(sub.met));
                 let asked = holds(sub.looked as u16, step.0);
-                let found = sub.plan;
-                let end = sub.end;
-                match end {
+                match sub.end {
                     PlanEnd::Limit => {
                         return Planned {
                             end: PlanEnd::Limit,
                             plan: p,
-                            looked: looked,
-                            met: met,
+                            looked,
+                            met,
                         };
                     }
                     PlanEnd::Yes(more) => {
                         return Planned {
                             end: PlanEnd::Yes(trials + more),
-                            plan: found,
-                            looked: looked,
-                            met: met,
+                            plan: sub.plan,
+                            looked,
+                            met,
                         };
                     }
                     PlanEnd::No(more) => {
@@ -107,19 +90,19 @@ pub fn plan_walk(
                         if !asked {
                             let all_met = met.joined(line.tried);
                             match rest_alike(without(line, absent), used, more, limit) {
-                                Spent::Limit => {
+                                None => {
                                     return Planned {
                                         end: PlanEnd::Limit,
                                         plan: p,
-                                        looked: looked,
+                                        looked,
                                         met: all_met,
                                     };
                                 }
-                                Spent::All(all) => {
+                                Some(all) => {
                                     return Planned {
                                         end: PlanEnd::No(all),
                                         plan: p,
-                                        looked: looked,
+                                        looked,
                                         met: all_met,
                                     };
                                 }
@@ -132,72 +115,61 @@ pub fn plan_walk(
     }
 }
 
-// The same, where the desk may choose its step. Everybody counts as met.
+// The same, where the desk may choose its step. Everybody counts as met. That a step is left stands in a clause, here and in the other searches: a number of a
+// type for that would be taken apart at each turn.
 #[cycle(plan_choice_plan_walk)]
-fn plan_choice(
-    board: &[u32; PLACES],
-    people: u8,
-    absent: People,
-    p: Filled,
-    left: u8,
-    limit: u32,
-) -> Planned
-    requires { (0 < left) × (people ≤ 32) }
-    ensures { PlanTold board.now people (number absent) left limit p result }
+fn plan_choice(board: &Board, absent: People, p: Filled, left: u8, limit: u32) -> Planned
+    requires { 0 < left }
+    ensures { PlanTold board.now.words board.now.people (number absent) left limit p result }
 {
-    let choices = lines_up(board, people, p);
-    let lines = choices.lines.without(absent);
+    let choices = lines_up(&board.words, board.people, p);
+    let lines = choices.value.without(absent);
     let everybody = People::everybody(People::WIDTH);
     let mut looked = choices.looked;
     let mut at = Cursor { person: 0, line: 0 };
     let mut used: u32 = 0;
     loop {
         match next_move(lines, at, used, limit) {
-            lines::Try::Limit => {
+            Try::Limit => {
                 return Planned {
                     end: PlanEnd::Limit,
                     plan: p,
-                    looked: looked,
+                    looked,
                     met: everybody,
                 };
             }
-            lines::Try::Nobody(trials) => {
+            Try::Nobody(trials) => {
                 return Planned {
                     end: PlanEnd::No(trials),
                     plan: p,
-                    looked: looked,
+                    looked,
                     met: everybody,
                 };
             }
-            lines::Try::Move(m, trials) => {
-                let here = m.line;
-                let line = lines.lines[here as usize];
-                let step = line.step;
+            Try::Move(m, trials) => {
+                let step = lines.lines[m.line as usize].step;
                 let sub = plan_walk(
                     board,
-                    people,
                     absent,
                     p.placed(step, Person(m.person)),
                     left - 1,
                     limit - trials,
                 );
                 looked = joined_steps(looked, sub.looked);
-                let found = sub.plan;
-                let end = sub.end;
-                match end {
+                match sub.end {
                     PlanEnd::Limit => {
                         return Planned {
                             end: PlanEnd::Limit,
                             plan: p,
-                            looked: looked,
+                            looked,
                             met: everybody,
                         };
                     }
                     PlanEnd::Yes(more) => {
                         return Planned {
                             end: PlanEnd::Yes(trials + more),
-                            plan: found,
-                            looked: looked,
+                            plan: sub.plan,
+                            looked,
                             met: everybody,
                         };
                     }
@@ -215,32 +187,17 @@ fn plan_choice(
 }
 
 // Is there a plan without some people? A turn of the static walk, and of decremental once all are gone.
-pub fn without_plan(
-    board: &[u32; PLACES],
-    people: u8,
-    away: People,
-    p: Filled,
-    left: u8,
-    limit: u32,
-) -> Turned
-    requires { people ≤ 32 }
-    ensures { Tells (λ q. if_none (number away) (plan (board_arena board.now people) (number away) left q)) limit p result.looked (turn_outcome limit (number away) result.turn) }
+pub fn without_plan(board: &Board, away: People, p: Filled, left: u8, limit: u32) -> Looked<Turn>
+    ensures { Tells (λ q. if_none (number away) (plan (board_arena board.now.words board.now.people) (number away) left q)) limit p result.looked (turn_outcome limit (number away) result.value) }
 {
-    let walked = plan_walk(board, people, away, p, left, limit);
-    let looked = walked.looked;
-    let end = walked.end;
-    match end {
-        PlanEnd::Limit => Turned {
-            turn: Turn::Limit,
-            looked: looked,
-        },
-        PlanEnd::No(trials) => Turned {
-            turn: Turn::Beaten(trials),
-            looked: looked,
-        },
-        PlanEnd::Yes(trials) => Turned {
-            turn: Turn::Holds(trials),
-            looked: looked,
-        },
+    let walked = plan_walk(board, away, p, left, limit);
+    let turn = match walked.end {
+        PlanEnd::Limit => Turn::Limit,
+        PlanEnd::No(trials) => Turn::Beaten(trials),
+        PlanEnd::Yes(trials) => Turn::Holds(trials),
+    };
+    Looked {
+        value: turn,
+        looked: walked.looked,
     }
 }

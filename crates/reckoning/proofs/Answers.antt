@@ -27,7 +27,7 @@ use Rattle.sums.proofs.Sums.{over_nothing}
 use Rattle.sums.proofs.Summed.{summed-weights, summed-seek}
 use Rattle.reckoning.specs.Reckoned.{turn_on, Says, Tells}
 use Rattle.reckoning.specs.declared.Reckoned.{Reckoned}
-use Rattle.reckoning.specs.declared.Reckoned.TheVariants as reckoned
+use Rattle.std.specs.Prelude as code
 
 once-weights : (held : People) (room u : ℕ) → u < width → weight_of (once held room) u ≡ 1
 once-weights held room u l = get_or-replicate 32 u 1 0 l
@@ -54,12 +54,12 @@ module _ (b : List ℕ) (n k : ℕ) (p : Filled) (few : n ≤ width) where
       at (suc j) z = summed-seek (turn_on b n (r + size n (number away)) (suc j) p) n r (number away) x l z
 
   -- a turn of the away side: those away are held, and more may go before each later step
-  pub away-tells : (t z : ℕ) (away : People) (sets : Absences) (r : Reckoned) → number away < 2 ^ n → size n (number away) ≤ t → z ≡ size width (number away) → sets ≡ once away (t - z)
+  pub away-tells : (t z : ℕ) (away : People) (sets : Absences) (r : code.Option Reckoned) → number away < 2 ^ n → size n (number away) ≤ t → z ≡ size width (number away) → sets ≡ once away (t - z)
       → Says b n sets k p r → Tells (decremental (board_arena b n) t k (number away) p) r
-  away-tells t z away sets reckoned.Lost l h q e s = tt
-  away-tells t z away sets (reckoned.Sum x i) l h q e s =
-      subst (λ (m : ℕ). Comes (decremental (board_arena b n) m k (number away) p) x) same
-      (decremental-comes (t - z) away x l (subst (λ (a : Absences). Summed (turn_on b n (a.room + size n (number a.held)) k p) n (weight_of a) a.room (number a.held) x) e s))
+  away-tells t z away sets code.None l h q e s = tt
+  away-tells t z away sets (code.Some r) l h q e s =
+      subst (λ (m : ℕ). Comes (decremental (board_arena b n) m k (number away) p) r.trials) same
+      (decremental-comes (t - z) away r.trials l (subst (λ (a : Absences). Summed (turn_on b n (a.room + size n (number a.held)) k p) n (weight_of a) a.room (number a.held) r.trials) e s))
     where
       same : t - z + size n (number away) ≡ t
       same = omega (arith, q, h, size-wide n (number away) few l)
@@ -77,8 +77,8 @@ module _ (limit x : ℕ) (few : limit < 2 ^ 32) (w : Search ℕ) (c : Comes w x)
 
 -- ---- the answer from every position that agrees
 
-module _ (walk : Filled → Search ℕ) (limit : ℕ) (p : Filled) {r : Reckoned} {x l : ℕ} (v : Verdict) where
-  pub told-for-all : Tells (walk p) r → r ≡ reckoned.Sum x l → ((w : Search ℕ) → Comes w x → verdict_outcome limit v ≡ cut limit w)
+module _ (walk : Filled → Search ℕ) (limit : ℕ) (p : Filled) {r : code.Option Reckoned} {x : Reckoned} (v : Verdict) where
+  pub told-for-all : Tells (walk p) r → r ≡ code.Some x → ((w : Search ℕ) → Comes w x.trials → verdict_outcome limit v ≡ cut limit w)
       → outcomes.Tells walk limit p (2 ^ most_steps - 1) (verdict_outcome limit v)
   told-for-all s e tell q a =
       tell (walk p) (subst (Tells (walk p)) e s) ∙ ap (λ (z : Filled). cut limit (walk z)) (sym (agree-everywhere p q a))

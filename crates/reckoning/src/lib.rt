@@ -14,9 +14,9 @@ ghost use Rattle.sums.specs.Arrays.{weight_of};
 ghost use Rattle.tries.specs.Outcomes.{verdict_outcome};
 ghost use Rattle.reckoning.specs.Reckoned.{Says, Tells};
 
-use boards::PLACES;
+use boards::Board;
 use cases::{Case, Filled, Person};
-use sets::{Lowest, People};
+use sets::People;
 use sums::{Absences, ROOM, added, joined, once, product, raised, staying, trials_to, weight};
 use tries::{Verdict, line_up, next_step, several};
 
@@ -26,32 +26,30 @@ const LOOKS: u32 = 1000;
 // How many trials of a walk take about as long as one look.
 const LOOK_TRIALS: u32 = 32;
 
-// The sum of the trials, as it is told, with the looks that are left; or nothing.
+// The sum of the trials, as it is told, with the looks that are left.
 #[derive(Clone, Copy)]
-pub enum Reckoned {
-    Sum(u64, u32),
-    Lost,
+pub struct Reckoned {
+    pub trials: u64,
+    pub looks: u32,
 }
 
 // The trials of a turn of the away side in the decremental walk, where they can be reckoned: no set beats the desk, which holds with the first who fits.
 pub fn away_trials(
-    board: &[u32; PLACES],
-    people: u8,
+    board: &Board,
     t: u32,
     away: People,
     p: Filled,
     left: u8,
     limit: u32,
-) -> Reckoned
-    requires { (people ≤ 32) × (number away < 2 ^ people) × (size people (number away) ≤ t) }
-    ensures { Tells (decremental (board_arena board.now people) t left (number away) p) result }
+) -> Option<Reckoned>
+    requires { (number away < 2 ^ board.now.people) × (size board.now.people (number away) ≤ t) }
+    ensures { Tells (decremental (board_arena board.now.words board.now.people) t left (number away) p) result }
 {
     if Case::STEPS < (left as usize) {
-        return Reckoned::Lost;
+        return None;
     }
     reckon(
         board,
-        people,
         once(away, t - away.size()),
         p,
         left,
@@ -61,86 +59,61 @@ pub fn away_trials(
 
 // The looks of a reckoning: they take no longer than the walk may take to its limit.
 fn looks_within(limit: u32) -> u32 {
-    let looks = limit / LOOK_TRIALS;
-    if looks < LOOKS { looks } else { LOOKS }
+    LOOKS.min(limit / LOOK_TRIALS)
 }
 
 // The trials of the desk's turns from a position, summed over absence sets; or nothing where there is too much room, no look is left, several steps are
 // ready, or the desk might not hold with the first who fits. More may go before each later step.
-fn reckon(
-    board: &[u32; PLACES],
-    people: u8,
-    sets: Absences,
-    p: Filled,
-    left: u8,
-    looks: u32,
-) -> Reckoned
-    requires { (people ≤ 32) × (number sets.held < 2 ^ people) × ((u : ℕ) → u < width → weight_of sets u + left < 256) }
-    ensures { Says board.now people sets left p result }
+fn reckon(board: &Board, sets: Absences, p: Filled, left: u8, looks: u32) -> Option<Reckoned>
+    requires { (number sets.held < 2 ^ board.now.people) × ((u : ℕ) → u < width → weight_of sets u + left < 256) }
+    ensures { Says board.now.words board.now.people sets left p result }
 {
     if left == 0 {
-        return Reckoned::Sum(0, looks);
+        return Some(Reckoned { trials: 0, looks });
     }
-    if looks == 0 {
-        return Reckoned::Lost;
+    if looks == 0 || ROOM < sets.room || several(&board.words, p) {
+        return None;
     }
-    if ROOM < sets.room {
-        return Reckoned::Lost;
-    }
-    if several(board, p) {
-        return Reckoned::Lost;
-    }
-    let held = sets.held;
-    let step = next_step(board, p);
-    let lined = line_up(board, people, held, p, step);
-    let line = lined.line;
+    let step = next_step(&board.words, p);
+    let line = line_up(&board.words, board.people, sets.held, p, step).value;
     let fit = line.fit;
     if fit.size() <= sets.room {
-        return Reckoned::Lost;
+        return None;
     }
     let missed = line.tried.difference(fit);
     let mut rest = fit;
     let mut away = sets;
     let mut sum: u64 = 0;
     let mut scale: u64 = 1;
-    let mut more_looks = looks - 1;
-    loop {
-        match rest.lowest() {
-            Lowest::Nobody => {
-                return Reckoned::Lost;
-            }
-            Lowest::Person(v) => {
-                let stay = staying(away, v);
-                match reckon(
-                    board,
-                    people,
-                    raised(stay),
-                    p.placed(step, Person(v)),
-                    left - 1,
-                    more_looks,
-                ) {
-                    Reckoned::Lost => {
-                        return Reckoned::Lost;
-                    }
-                    Reckoned::Sum(more, looks_left) => {
-                        sum = added(sum, scale, trials_to(people, stay, missed, v), more);
-                        let w = weight(away, v);
-                        if w == 0 {
-                            return Reckoned::Sum(sum, looks_left);
-                        }
-                        if away.room == 0 {
-                            return Reckoned::Sum(sum, looks_left);
-                        }
-                        scale = product(scale, w as u64);
-                        let next = joined(away, v);
-                        away = next;
-                        rest = rest.without(v);
-                        more_looks = looks_left;
-                    }
-                }
-            }
+    let mut looks_left = looks - 1;
+    while let Some(v) = rest.lowest() {
+        let stay = staying(away, v);
+        let more = reckon(
+            board,
+            raised(stay),
+            p.placed(step, Person(v)),
+            left - 1,
+            looks_left,
+        )?;
+        sum = added(
+            sum,
+            scale,
+            trials_to(board.people, stay, missed, v),
+            more.trials,
+        );
+        looks_left = more.looks;
+        let w = weight(away, v);
+        if w == 0 || away.room == 0 {
+            return Some(Reckoned {
+                trials: sum,
+                looks: looks_left,
+            });
         }
+        scale = product(scale, w as u64);
+        away = joined(away, v);
+        rest = rest.without(v);
     }
+    None
 }
 
 // The verdict of a walk that comes to no set, from its trials as they are told.

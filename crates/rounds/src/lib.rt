@@ -13,60 +13,44 @@ ghost use Rattle.games.specs.Limit.{cut};
 ghost use Rattle.boards.specs.Arena.{board_arena};
 ghost use Rattle.tries.specs.Outcomes.{verdict_outcome, Tells};
 
-use boards::PLACES;
+use boards::Board;
 use cases::{Filled, Person, joined_steps};
 use lines::{Cursor, next_move};
 use sets::{People, holds};
 use tries::{
-    Try, Verdict, Walked, all_bad, all_good, behind, line_up, lines_up, next_step, next_try,
+    Looked, Try, Verdict, all_bad, all_good, behind, line_up, lines_up, next_step, next_try,
     several,
 };
 
 // Have more than t people a good move? If not, who has.
-pub fn dynamic_walk(
-    board: &[u32; PLACES],
-    people: u8,
-    t: u32,
-    p: Filled,
-    left: u8,
-    limit: u32,
-) -> Verdict
-    requires { people ≤ 32 }
-    ensures { verdict_outcome limit result ≡ cut limit (dynamic (board_arena board.now people) t left p) }
+pub fn dynamic_walk(board: &Board, t: u32, p: Filled, left: u8, limit: u32) -> Verdict
+    ensures { verdict_outcome limit result ≡ cut limit (dynamic (board_arena board.now.words board.now.people) t left p) }
 {
-    dynamic_from(board, people, t, p, left, limit).verdict
+    dynamic_from(board, t, p, left, limit).value
 }
 
 // The same, with the steps looked at.
 #[cycle(dynamic_choice_dynamic_from)]
-pub fn dynamic_from(
-    board: &[u32; PLACES],
-    people: u8,
-    t: u32,
-    p: Filled,
-    left: u8,
-    limit: u32,
-) -> Walked
-    requires { people ≤ 32 }
-    ensures { Tells (dynamic (board_arena board.now people) t left) limit p result.looked (verdict_outcome limit result.verdict) }
+pub fn dynamic_from(board: &Board, t: u32, p: Filled, left: u8, limit: u32) -> Looked<Verdict>
+    ensures { Tells (dynamic (board_arena board.now.words board.now.people) t left) limit p result.looked (verdict_outcome limit result.value) }
 {
     if left == 0 {
-        return Walked {
-            verdict: Verdict::Yes(0),
+        return Looked {
+            value: Verdict::Yes(0),
             looked: 0,
         };
     }
-    if several(board, p) {
-        return dynamic_choice(board, people, t, p, left, limit);
+    if several(&board.words, p) {
+        return dynamic_choice(board, t, p, left, limit);
     }
-    let step = next_step(board, p);
-    let lined = line_up(board, people, People::none(), p, step);
-    let whole = lined.line;
+    let step = next_step(&board.words, p);
+    let lined = line_up(&board.words, board.people, People::none(), p, step);
+    let whole = lined.value;
     let mut looked = lined.looked;
     if left == 1 {
-        return Walked {
-            verdict: all_good(whole, t, 0, limit),
-            looked: looked,
+        return Looked {
+            value: all_good(whole, t, 0, limit),
+            looked,
         };
     }
     let mut line = whole;
@@ -76,34 +60,26 @@ pub fn dynamic_from(
     loop {
         match next_try(line, used, limit) {
             Try::Limit => {
-                return Walked {
-                    verdict: Verdict::Limit,
-                    looked: looked,
+                return Looked {
+                    value: Verdict::Limit,
+                    looked,
                 };
             }
             Try::Nobody(trials) => {
-                return Walked {
-                    verdict: Verdict::No(shown, trials),
-                    looked: looked,
+                return Looked {
+                    value: Verdict::No(shown, trials),
+                    looked,
                 };
             }
-            Try::Person(v, trials) => {
-                let sub = dynamic_from(
-                    board,
-                    people,
-                    t,
-                    p.placed(step, v),
-                    left - 1,
-                    limit - trials,
-                );
+            Try::Move(v, trials) => {
+                let sub = dynamic_from(board, t, p.placed(step, v), left - 1, limit - trials);
                 looked = joined_steps(looked, sub.looked);
                 let asked = holds(sub.looked as u16, step.0);
-                let verdict = sub.verdict;
-                match verdict {
+                match sub.value {
                     Verdict::Limit => {
-                        return Walked {
-                            verdict: Verdict::Limit,
-                            looked: looked,
+                        return Looked {
+                            value: Verdict::Limit,
+                            looked,
                         };
                     }
                     Verdict::No(_, more) => {
@@ -111,18 +87,18 @@ pub fn dynamic_from(
                             used = trials + more;
                             line = behind(line, v);
                         } else {
-                            return Walked {
-                                verdict: all_bad(whole, more, limit),
-                                looked: looked,
+                            return Looked {
+                                value: all_bad(whole, more, limit),
+                                looked,
                             };
                         }
                     }
                     Verdict::Yes(more) => {
                         if asked {
                             if found == t {
-                                return Walked {
-                                    verdict: Verdict::Yes(trials + more),
-                                    looked: looked,
+                                return Looked {
+                                    value: Verdict::Yes(trials + more),
+                                    looked,
                                 };
                             }
                             found += 1;
@@ -130,9 +106,9 @@ pub fn dynamic_from(
                             used = trials + more;
                             line = behind(line, v);
                         } else {
-                            return Walked {
-                                verdict: all_good(whole, t, more, limit),
-                                looked: looked,
+                            return Looked {
+                                value: all_good(whole, t, more, limit),
+                                looked,
                             };
                         }
                     }
@@ -142,21 +118,14 @@ pub fn dynamic_from(
     }
 }
 
-// The same, where the desk may choose its step.
+// The same, where the desk may choose its step. A step is left, as a clause says: see `plan_choice` of `plans`.
 #[cycle(dynamic_choice_dynamic_from)]
-fn dynamic_choice(
-    board: &[u32; PLACES],
-    people: u8,
-    t: u32,
-    p: Filled,
-    left: u8,
-    limit: u32,
-) -> Walked
-    requires { (0 < left) × (people ≤ 32) }
-    ensures { Tells (dynamic (board_arena board.now people) t left) limit p result.looked (verdict_outcome limit result.verdict) }
+fn dynamic_choice(board: &Board, t: u32, p: Filled, left: u8, limit: u32) -> Looked<Verdict>
+    requires { 0 < left }
+    ensures { Tells (dynamic (board_arena board.now.words board.now.people) t left) limit p result.looked (verdict_outcome limit result.value) }
 {
-    let choices = lines_up(board, people, p);
-    let lines = choices.lines;
+    let choices = lines_up(&board.words, board.people, p);
+    let lines = choices.value;
     let mut looked = choices.looked;
     let mut at = Cursor { person: 0, line: 0 };
     let mut shown = People::none();
@@ -164,37 +133,33 @@ fn dynamic_choice(
     let mut used: u32 = 0;
     loop {
         match next_move(lines, at, used, limit) {
-            lines::Try::Limit => {
-                return Walked {
-                    verdict: Verdict::Limit,
-                    looked: looked,
+            Try::Limit => {
+                return Looked {
+                    value: Verdict::Limit,
+                    looked,
                 };
             }
-            lines::Try::Nobody(trials) => {
-                return Walked {
-                    verdict: Verdict::No(shown, trials),
-                    looked: looked,
+            Try::Nobody(trials) => {
+                return Looked {
+                    value: Verdict::No(shown, trials),
+                    looked,
                 };
             }
-            lines::Try::Move(m, trials) => {
-                let here = m.line;
-                let line = lines.lines[here as usize];
-                let step = line.step;
+            Try::Move(m, trials) => {
+                let step = lines.lines[m.line as usize].step;
                 let sub = dynamic_from(
                     board,
-                    people,
                     t,
                     p.placed(step, Person(m.person)),
                     left - 1,
                     limit - trials,
                 );
                 looked = joined_steps(looked, sub.looked);
-                let verdict = sub.verdict;
-                match verdict {
+                match sub.value {
                     Verdict::Limit => {
-                        return Walked {
-                            verdict: Verdict::Limit,
-                            looked: looked,
+                        return Looked {
+                            value: Verdict::Limit,
+                            looked,
                         };
                     }
                     Verdict::No(_, more) => {
@@ -206,9 +171,9 @@ fn dynamic_choice(
                     }
                     Verdict::Yes(more) => {
                         if found == t {
-                            return Walked {
-                                verdict: Verdict::Yes(trials + more),
-                                looked: looked,
+                            return Looked {
+                                value: Verdict::Yes(trials + more),
+                                looked,
                             };
                         }
                         found += 1;

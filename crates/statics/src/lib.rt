@@ -10,46 +10,30 @@ ghost use Rattle.games.specs.Limit.{cut};
 ghost use Rattle.boards.specs.Arena.{board_arena};
 ghost use Rattle.tries.specs.Outcomes.{verdict_outcome, Tells};
 
-use boards::PLACES;
+use boards::Board;
 use cases::{Case, Filled, joined_steps};
-use leaps::{Leap, leap_from};
+use leaps::leap_from;
 use plans::plan_walk;
-use sets::{Next, People};
-use tries::{PlanEnd, Verdict, Walked};
+use sets::People;
+use tries::{Looked, PlanEnd, Verdict};
 
 // Of the limit, the trials that leaps may make in vain: one in so many.
 const IN_VAIN: u32 = 8;
 
 // The sets of at most t people, a plan walk each; it stops at the first without a plan. With no step left there is nothing to walk.
-pub fn static_walk(
-    board: &[u32; PLACES],
-    people: u8,
-    t: u32,
-    p: Filled,
-    left: u8,
-    limit: u32,
-) -> Verdict
-    requires { people ≤ 32 }
-    ensures { verdict_outcome limit result ≡ cut limit (static (board_arena board.now people) t left p) }
+pub fn static_walk(board: &Board, t: u32, p: Filled, left: u8, limit: u32) -> Verdict
+    ensures { verdict_outcome limit result ≡ cut limit (static (board_arena board.now.words board.now.people) t left p) }
 {
-    static_from(board, people, t, p, left, limit).verdict
+    static_from(board, t, p, left, limit).value
 }
 
 // The same, with the steps looked at. What a leap tells may hang on who fills any step.
-pub fn static_from(
-    board: &[u32; PLACES],
-    people: u8,
-    t: u32,
-    p: Filled,
-    left: u8,
-    limit: u32,
-) -> Walked
-    requires { people ≤ 32 }
-    ensures { Tells (static (board_arena board.now people) t left) limit p result.looked (verdict_outcome limit result.verdict) }
+pub fn static_from(board: &Board, t: u32, p: Filled, left: u8, limit: u32) -> Looked<Verdict>
+    ensures { Tells (static (board_arena board.now.words board.now.people) t left) limit p result.looked (verdict_outcome limit result.value) }
 {
     if left == 0 {
-        return Walked {
-            verdict: Verdict::Yes(0),
+        return Looked {
+            value: Verdict::Yes(0),
             looked: 0,
         };
     }
@@ -58,58 +42,57 @@ pub fn static_from(
     let mut looked: u8 = 0;
     let mut spare = limit / IN_VAIN;
     loop {
-        let walked = plan_walk(board, people, set, p, left, limit - used);
+        let walked = plan_walk(board, set, p, left, limit - used);
         looked = joined_steps(looked, walked.looked);
-        let end = walked.end;
-        match end {
+        match walked.end {
             PlanEnd::Limit => {
-                return Walked {
-                    verdict: Verdict::Limit,
-                    looked: looked,
+                return Looked {
+                    value: Verdict::Limit,
+                    looked,
                 };
             }
             PlanEnd::No(trials) => {
-                return Walked {
-                    verdict: Verdict::No(set, used + trials),
-                    looked: looked,
+                return Looked {
+                    value: Verdict::No(set, used + trials),
+                    looked,
                 };
             }
             PlanEnd::Yes(trials) => {
-                match leap_from(board, people, t, set, p, left, walked, limit - used, spare) {
-                    Leap::Over(below, sum) => {
+                match leap_from(board, t, set, p, left, walked, limit - used, spare) {
+                    Ok(leap) => {
                         looked = Case::ALL_STEPS;
-                        let all = (used as u64) + sum;
+                        let all = (used as u64) + leap.trials;
                         if (limit as u64) < all {
-                            return Walked {
-                                verdict: Verdict::Limit,
-                                looked: looked,
+                            return Looked {
+                                value: Verdict::Limit,
+                                looked,
                             };
                         }
                         used = all as u32;
-                        if below == people {
-                            return Walked {
-                                verdict: Verdict::Yes(used),
-                                looked: looked,
+                        if leap.below == board.people {
+                            return Looked {
+                                value: Verdict::Yes(used),
+                                looked,
                             };
                         }
-                        set = set.with(below);
+                        set = set.with(leap.below);
                         continue;
                     }
-                    Leap::Nowhere(spare_left) => {
+                    Err(spare_left) => {
                         spare = spare_left;
                     }
                 }
                 used += trials;
             }
         }
-        match set.next(people, t, People::none()) {
-            Next::Set(larger) => {
+        match set.next(board.people, t, People::none()) {
+            Some(larger) => {
                 set = larger;
             }
-            Next::Nothing => {
-                return Walked {
-                    verdict: Verdict::Yes(used),
-                    looked: looked,
+            None => {
+                return Looked {
+                    value: Verdict::Yes(used),
+                    looked,
                 };
             }
         }

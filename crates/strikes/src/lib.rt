@@ -14,124 +14,98 @@ ghost use Rattle.games.specs.Limit.{cut};
 ghost use Rattle.boards.specs.Arena.{board_arena};
 ghost use Rattle.tries.specs.Outcomes.{verdict_outcome, turn_outcome, pass_on, Tells};
 
-use boards::PLACES;
+use boards::Board;
 use cases::{Filled, Person, joined_steps};
 use lines::{Cursor, next_move};
 use sets::{People, holds};
 use statics::static_from;
 use tries::{
-    Spent, Try, Turn, Turned, Verdict, Walked, behind, line_up, lines_up, next_step, next_try,
-    rest_alike, several,
+    Looked, Try, Turn, Verdict, behind, line_up, lines_up, next_step, next_try, rest_alike, several,
 };
 
 // A turn of the away side that has not struck: the pass, then the strikes; it stops at the first that beats the desk. A pass is shown as nobody.
-pub fn one_shot_walk(
-    board: &[u32; PLACES],
-    people: u8,
-    t: u32,
-    p: Filled,
-    left: u8,
-    limit: u32,
-) -> Verdict
-    requires { people ≤ 32 }
-    ensures { verdict_outcome limit result ≡ cut limit (one_shot (board_arena board.now people) t left p) }
+pub fn one_shot_walk(board: &Board, t: u32, p: Filled, left: u8, limit: u32) -> Verdict
+    ensures { verdict_outcome limit result ≡ cut limit (one_shot (board_arena board.now.words board.now.people) t left p) }
 {
-    one_shot_from(board, people, t, p, left, limit).verdict
+    one_shot_from(board, t, p, left, limit).value
 }
 
 // The same, with the steps looked at.
 #[cycle(one_shot_from_pass_choice_pass_turn)]
-fn one_shot_from(
-    board: &[u32; PLACES],
-    people: u8,
-    t: u32,
-    p: Filled,
-    left: u8,
-    limit: u32,
-) -> Walked
-    requires { people ≤ 32 }
-    ensures { Tells (one_shot (board_arena board.now people) t left) limit p result.looked (verdict_outcome limit result.verdict) }
+fn one_shot_from(board: &Board, t: u32, p: Filled, left: u8, limit: u32) -> Looked<Verdict>
+    ensures { Tells (one_shot (board_arena board.now.words board.now.people) t left) limit p result.looked (verdict_outcome limit result.value) }
 {
     if left == 0 {
-        return Walked {
-            verdict: Verdict::Yes(0),
+        return Looked {
+            value: Verdict::Yes(0),
             looked: 0,
         };
     }
-    let passed = pass_turn(board, people, t, p, left, limit);
+    let passed = pass_turn(board, t, p, left, limit);
     let looked = passed.looked;
-    let turn = passed.turn;
-    match turn {
-        Turn::Limit => Walked {
-            verdict: Verdict::Limit,
-            looked: looked,
+    match passed.value {
+        Turn::Limit => Looked {
+            value: Verdict::Limit,
+            looked,
         },
-        Turn::Beaten(trials) => Walked {
-            verdict: Verdict::No(People::none(), trials),
-            looked: looked,
+        Turn::Beaten(trials) => Looked {
+            value: Verdict::No(People::none(), trials),
+            looked,
         },
         Turn::Holds(trials) => {
-            let struck = then_strikes(board, people, t, p, left, trials, limit);
-            let verdict = struck.verdict;
-            Walked {
-                verdict: verdict,
+            let struck = then_strikes(board, t, p, left, trials, limit);
+            Looked {
+                value: struck.value,
                 looked: joined_steps(looked, struck.looked),
             }
         }
     }
 }
 
-// A turn of the desk after a pass, with everybody present: it stops at the first person who leaves a position from which the away side cannot win.
+// A turn of the desk after a pass, with everybody present: it stops at the first person who leaves a position from which the away side cannot win. A step is
+// left, as a clause says: see `plan_choice` of `plans`.
 #[cycle(one_shot_from_pass_choice_pass_turn)]
-fn pass_turn(board: &[u32; PLACES], people: u8, t: u32, p: Filled, left: u8, limit: u32) -> Turned
-    requires { (0 < left) × (people ≤ 32) }
-    ensures { Tells (pass_on board.now people t (left - 1)) limit p result.looked (turn_outcome limit 0 result.turn) }
+fn pass_turn(board: &Board, t: u32, p: Filled, left: u8, limit: u32) -> Looked<Turn>
+    requires { 0 < left }
+    ensures { Tells (pass_on board.now.words board.now.people t (left - 1)) limit p result.looked (turn_outcome limit 0 result.value) }
 {
-    if several(board, p) {
-        return pass_choice(board, people, t, p, left, limit);
+    if several(&board.words, p) {
+        return pass_choice(board, t, p, left, limit);
     }
-    let step = next_step(board, p);
-    let lined = line_up(board, people, People::none(), p, step);
+    let step = next_step(&board.words, p);
+    let lined = line_up(&board.words, board.people, People::none(), p, step);
     let mut looked = lined.looked;
-    let mut line = lined.line;
+    let mut line = lined.value;
     let mut used: u32 = 0;
     loop {
         match next_try(line, used, limit) {
             Try::Limit => {
-                return Turned {
-                    turn: Turn::Limit,
-                    looked: looked,
+                return Looked {
+                    value: Turn::Limit,
+                    looked,
                 };
             }
             Try::Nobody(trials) => {
-                return Turned {
-                    turn: Turn::Beaten(trials),
-                    looked: looked,
+                return Looked {
+                    value: Turn::Beaten(trials),
+                    looked,
                 };
             }
-            Try::Person(v, trials) => {
-                let sub = one_shot_from(
-                    board,
-                    people,
-                    t,
-                    p.placed(step, v),
-                    left - 1,
-                    limit - trials,
-                );
+            Try::Move(v, trials) => {
+                let sub = one_shot_from(board, t, p.placed(step, v), left - 1, limit - trials);
                 looked = joined_steps(looked, sub.looked);
                 let asked = holds(sub.looked as u16, step.0);
-                let verdict = sub.verdict;
-                match verdict {
+                match sub.value {
                     Verdict::Limit => {
-                        return Turned {
-                            turn: Turn::Limit,
-                            looked: looked,
+                        return Looked {
+                            value: Turn::Limit,
+                            looked,
                         };
                     }
                     Verdict::Yes(more) => {
-                        return Turned {
-                            turn: Turn::Holds(trials + more),
-                            looked: looked,
+                        return Looked {
+                            value: Turn::Holds(trials + more),
+                            looked,
                         };
                     }
                     Verdict::No(_, more) => {
@@ -139,16 +113,16 @@ fn pass_turn(board: &[u32; PLACES], people: u8, t: u32, p: Filled, left: u8, lim
                         line = behind(line, v);
                         if !asked {
                             match rest_alike(line, used, more, limit) {
-                                Spent::Limit => {
-                                    return Turned {
-                                        turn: Turn::Limit,
-                                        looked: looked,
+                                None => {
+                                    return Looked {
+                                        value: Turn::Limit,
+                                        looked,
                                     };
                                 }
-                                Spent::All(all) => {
-                                    return Turned {
-                                        turn: Turn::Beaten(all),
-                                        looked: looked,
+                                Some(all) => {
+                                    return Looked {
+                                        value: Turn::Beaten(all),
+                                        looked,
                                     };
                                 }
                             }
@@ -162,54 +136,50 @@ fn pass_turn(board: &[u32; PLACES], people: u8, t: u32, p: Filled, left: u8, lim
 
 // The same, where the desk may choose its step.
 #[cycle(one_shot_from_pass_choice_pass_turn)]
-fn pass_choice(board: &[u32; PLACES], people: u8, t: u32, p: Filled, left: u8, limit: u32) -> Turned
-    requires { (0 < left) × (people ≤ 32) }
-    ensures { Tells (pass_on board.now people t (left - 1)) limit p result.looked (turn_outcome limit 0 result.turn) }
+fn pass_choice(board: &Board, t: u32, p: Filled, left: u8, limit: u32) -> Looked<Turn>
+    requires { 0 < left }
+    ensures { Tells (pass_on board.now.words board.now.people t (left - 1)) limit p result.looked (turn_outcome limit 0 result.value) }
 {
-    let choices = lines_up(board, people, p);
-    let lines = choices.lines;
+    let choices = lines_up(&board.words, board.people, p);
+    let lines = choices.value;
     let mut looked = choices.looked;
     let mut at = Cursor { person: 0, line: 0 };
     let mut used: u32 = 0;
     loop {
         match next_move(lines, at, used, limit) {
-            lines::Try::Limit => {
-                return Turned {
-                    turn: Turn::Limit,
-                    looked: looked,
+            Try::Limit => {
+                return Looked {
+                    value: Turn::Limit,
+                    looked,
                 };
             }
-            lines::Try::Nobody(trials) => {
-                return Turned {
-                    turn: Turn::Beaten(trials),
-                    looked: looked,
+            Try::Nobody(trials) => {
+                return Looked {
+                    value: Turn::Beaten(trials),
+                    looked,
                 };
             }
-            lines::Try::Move(m, trials) => {
-                let here = m.line;
-                let line = lines.lines[here as usize];
-                let step = line.step;
+            Try::Move(m, trials) => {
+                let step = lines.lines[m.line as usize].step;
                 let sub = one_shot_from(
                     board,
-                    people,
                     t,
                     p.placed(step, Person(m.person)),
                     left - 1,
                     limit - trials,
                 );
                 looked = joined_steps(looked, sub.looked);
-                let verdict = sub.verdict;
-                match verdict {
+                match sub.value {
                     Verdict::Limit => {
-                        return Turned {
-                            turn: Turn::Limit,
-                            looked: looked,
+                        return Looked {
+                            value: Turn::Limit,
+                            looked,
                         };
                     }
                     Verdict::Yes(more) => {
-                        return Turned {
-                            turn: Turn::Holds(trials + more),
-                            looked: looked,
+                        return Looked {
+                            value: Turn::Holds(trials + more),
+                            looked,
                         };
                     }
                     Verdict::No(_, more) => {
@@ -227,32 +197,24 @@ fn pass_choice(board: &[u32; PLACES], people: u8, t: u32, p: Filled, left: u8, l
 
 // The strikes, where the pass has used some trials: whoever is struck stays away to the end, so they are the static walk from here.
 fn then_strikes(
-    board: &[u32; PLACES],
-    people: u8,
+    board: &Board,
     t: u32,
     p: Filled,
     left: u8,
     used: u32,
     limit: u32,
-) -> Walked
-    requires { (used ≤ limit) × (people ≤ 32) }
-    ensures { Tells (λ q. plus used (static (board_arena board.now people) t left q)) limit p result.looked (verdict_outcome limit result.verdict) }
+) -> Looked<Verdict>
+    requires { used ≤ limit }
+    ensures { Tells (λ q. plus used (static (board_arena board.now.words board.now.people) t left q)) limit p result.looked (verdict_outcome limit result.value) }
 {
-    let walked = static_from(board, people, t, p, left, limit - used);
-    let looked = walked.looked;
-    let verdict = walked.verdict;
-    match verdict {
-        Verdict::Limit => Walked {
-            verdict: Verdict::Limit,
-            looked: looked,
-        },
-        Verdict::Yes(more) => Walked {
-            verdict: Verdict::Yes(used + more),
-            looked: looked,
-        },
-        Verdict::No(set, more) => Walked {
-            verdict: Verdict::No(set, used + more),
-            looked: looked,
-        },
+    let walked = static_from(board, t, p, left, limit - used);
+    let verdict = match walked.value {
+        Verdict::Limit => Verdict::Limit,
+        Verdict::Yes(more) => Verdict::Yes(used + more),
+        Verdict::No(set, more) => Verdict::No(set, used + more),
+    };
+    Looked {
+        value: verdict,
+        looked: walked.looked,
     }
 }

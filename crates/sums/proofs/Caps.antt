@@ -18,9 +18,6 @@ capped-right a b = omega arith
 pub capped_le : (a : ℕ) → capped a ≤ most
 capped_le a = omega arith
 
-pub capped_small : {a : ℕ} → a ≤ most → capped a ≡ a
-capped_small h = omega arith
-
 pub capped-times : (a b : ℕ) → capped (a * capped b) ≡ capped (a * b)
 capped-times zero b = ap capped (zero-mul (capped b) ∙ sym (zero-mul b))
 capped-times (suc a) b = go (dec_lt most b)

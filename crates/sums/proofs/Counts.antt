@@ -1,38 +1,27 @@
 -- How many sets there are: what the loops that count them hold.
 use mathlib.Core.Path.{◌≡◌, refl, sym, ap, ap₂, ◌∙◌, fun_ext}
-use mathlib.Core.Logic.{◌⊎◌, inl, inr}
 use mathlib.Core.Bool.{Bool, true, false}
-use mathlib.Core.List.{List}
+use mathlib.Core.List.{List, ◌++◌}
 use Prim.Native.Nat.{ℕ, zero, suc, ◌+◌, ◌-◌, ◌*◌, ◌^◌, ◌≤◌, ◌<◌}
-use native.Mathlib.Nat.{add_assoc, add-zero, mul-le-mul, mul-zero, zero-mul, le_refl}
+use native.Mathlib.Nat.{add_assoc, add-zero, mul-zero, zero-mul, le_refl}
 use native.Mathlib.Numerals.{add-one}
 use native.Mathlib.Decide.{dec_lt, ℕ_discrete}
 use native.Mathlib.Omega.{arith}
-use lib.ListN.{length, set, replicate, length-set, get_or-replicate, get_or-eq_default}
-use lib.Seq.{get_or-set_same, get_or-set_other, set_out}
+use lib.ListN.{length, set, drop, replicate, length-replicate, get_or-append, get_or-replicate, get_or-eq_default}
+use lib.Seq.{get_or-append_right, get_or-set_same, get_or-set_other, set_out}
 use borrow.Author.Tests.{eq-eqb, ne_eqb}
+use Rattle.std.proofs.lemmas.List.{get_or-drop}
 use Rattle.sets.specs.Lists.{pick}
 use Rattle.sets.specs.Sets.{has}
 use Rattle.sets.specs.Stored.{number}
 use Rattle.sets.specs.declared.People.{People}
-use Rattle.sets.proofs.Lists.{pick-lt, pick-ge, lt-or-eq}
+use Rattle.sets.proofs.Lists.{pick-lt, pick-ge}
 use Rattle.sets.proofs.Bits.{joined-low}
-use Rattle.sums.specs.Sums.{over, but, only_below, how_many, how_many_miss, most, capped}
-use Rattle.sums.specs.Arrays.{entry, Under, earlier, OneMore, weight_of, OnceBelow, staying, Raised}
+use Rattle.sums.specs.Sums.{over, but, only_below, how_many, how_many_miss, capped}
+use Rattle.sums.specs.Arrays.{entry, Under, earlier, OneMore, weight_of, OnceBelow, staying}
 use Rattle.sums.specs.declared.Absences.{Absences}
 use Rattle.sums.proofs.Sums.{over-nobody}
 use Rattle.sums.proofs.Caps.{capped-plus, capped_left, capped-right, capped-times}
-
--- ---- products
-
-pub product-none : (a b : ℕ) → a ≡ 0 → 0 ≡ capped (a * b)
-product-none a b e = sym (ap (λ (x : ℕ). capped (x * b)) e ∙ ap capped (zero-mul b))
-
-pub product-most : (a b : ℕ) → (a ≡ 0 → ⊥) → b ≡ most → most ≡ capped (a * b)
-product-most a b f e = let k : most ≡ capped (a * most) = omega arith in k ∙ ap (λ (x : ℕ). capped (a * x)) (sym e)
-
-pub product-fits : (a b : ℕ) → a ≤ most → b < most → a * b < 2 ^ 64
-product-fits a b h g = omega (arith, mul-le-mul {n₁ = a} {m₁ = b} {n₂ = most} {m₂ = most - 1} h (omega arith))
 
 -- ---- one person more
 
@@ -41,43 +30,6 @@ pub record Joining (e : ℕ → ℕ) (w j : ℕ) (out : List ℕ) (before : ℕ)
   pub long : length out ≡ 9
   pub done : (i : ℕ) → i < j → entry out i ≡ capped (e i + w * earlier e i)
   pub before-is : before ≡ earlier e j
-
-pub joining-start : (e : ℕ → ℕ) (w : ℕ) (out : List ℕ) → length out ≡ 9 → Joining e w 0 out 0
-joining-start e w out h = record { long = h; done = λ i l. absurd (omega arith); before-is = refl }
-
-pub joining-step : {e : ℕ → ℕ} {w j : ℕ} {out : List ℕ} {before : ℕ} (x y : ℕ) → Joining e w j out before → j < 9 → x ≡ e j → y ≡ capped (x + w * before)
-    → Joining e w (j + 1) (set out j y) x
-joining-step {e} {w} {j} {out} {before} x y a h q k =
-    record { long = length-set out j y ∙ a.long; done = λ i l. at i (lt-or-eq i j (omega arith)); before-is = q ∙ ap (earlier e) (sym (add-one j)) }
-  where
-    at : (i : ℕ) → (i ≡ j) ⊎ (i < j) → entry (set out j y) i ≡ capped (e i + w * earlier e i)
-    at i (inl d) =
-        ap (entry (set out j y)) d
-        ∙ get_or-set_same out j y 0 (omega (arith, a.long))
-        ∙ k
-        ∙ ap₂ (λ (p r : ℕ). capped (p + w * r)) q a.before-is
-        ∙ ap (λ (n : ℕ). capped (e n + w * earlier e n)) (sym d)
-    at i (inr l) = get_or-set_other out j i y 0 (λ d. omega arith) ∙ a.done i l
-
-pub joining-end : {e : ℕ → ℕ} {r w j : ℕ} {out : List ℕ} {before : ℕ} → Joining e w j out before → r < j → OneMore r w e out
-joining-end a h i l = a.done i (omega arith)
-
--- whoever does not count changes nothing
-pub joining-nobody : (l : List ℕ) (r w : ℕ) → Under r l → w ≡ 0 → OneMore r w (entry l) l
-joining-nobody l r w u e j h = omega (arith, u j h, ap (λ (x : ℕ). x * earlier (entry l) j) e, zero-mul (earlier (entry l) j))
-
--- no sum is too large
-earlier-le : (l : List ℕ) (r j : ℕ) → Under r l → j ≤ r → earlier (entry l) j ≤ most
-earlier-le l r zero u h = omega arith
-earlier-le l r (suc j) u h = u j (omega arith)
-
-pub joining-fits : (l : List ℕ) {r w j : ℕ} {out : List ℕ} {before : ℕ} (x : ℕ) → Joining (entry l) w j out before → j ≤ r → Under r l → x ≡ entry l j → w < 256
-    → (w * before < 2 ^ 63) × (x + w * before < 2 ^ 64)
-joining-fits l {r} {w} {j} {out} {before} x a h u q g =
-    let b = earlier-le l r j u h in
-    let k = mul-le-mul {n₁ = w} {m₁ = before} {n₂ = 255} {m₂ = most} (omega arith) (omega (arith, a.before-is)) in
-    let m = u j h in
-    (omega arith, omega arith)
 
 -- ---- person after person
 
@@ -130,9 +82,6 @@ counting-step w A r u p sums next h e g j l = g j l ∙ at j l ∙ ap (λ (m : �
         ∙ ap (λ (x : ℕ). capped (how_many w u (suc j) A + x * how_many w u j A)) e
         ∙ ap capped (sym (many_more w u j A))
 
-pub counting-end : (w : ℕ → ℕ) (A r u n : ℕ) (sums : List ℕ) → Counting w A r u sums → u ≤ n → n ≤ u → entry sums r ≡ capped (how_many w n r A)
-counting-end w A r u n sums h a b = let e : u ≡ n = omega arith in h r (le_refl r) ∙ ap (λ (m : ℕ). capped (how_many w m r A)) e
-
 -- ---- those who stay
 
 staying-entry : (l : List ℕ) (v u : ℕ) → entry (set l v 0) u ≡ but (entry l) v u
@@ -151,29 +100,31 @@ staying-weights sets v = fun_ext (staying-entry sets.weights v)
 
 -- ---- those below alone
 
--- what the loop holds: the first u weights are made
-pub record Weighing (u : ℕ) (l : List ℕ) : Type 0 where
-  pub long : length l ≡ 32
-  pub made : (i : ℕ) → i < 32 → entry l i ≡ only_below u i
-
-pub weighing-start : Weighing 0 (replicate 32 0)
-weighing-start = record { long = refl; made = λ i h. get_or-replicate 32 i 0 0 h ∙ pick-ge i 0 1 0 (omega arith) }
-
-pub weighing-step : {u : ℕ} {l : List ℕ} → Weighing u l → u < 32 → Weighing (u + 1) (set l u 1)
-weighing-step {u} {l} a h = record { long = length-set l u 1 ∙ a.long; made = λ i b. at i b (dec_lt i u) (dec_lt u i) }
+-- the first h count once, and nobody behind
+weighed : (h : ℕ) (l : List ℕ) → h ≤ 32 → l ≡ replicate h 1 → (i : ℕ) → i < 32 → entry (l ++ drop h (replicate 32 0)) i ≡ only_below h i
+weighed h l k e i b = at (dec_lt i h)
   where
-    at : (i : ℕ) → i < 32 → Dec (i < u) → Dec (u < i) → entry (set l u 1) i ≡ only_below (u + 1) i
-    at i b (yes k) d = get_or-set_other l u i 1 0 (λ e. omega arith) ∙ a.made i b ∙ sym (pick-lt i u 1 0 k) ∙ pick-lt i (u + 1) 1 0 (omega arith)
-    at i b (no k) (yes d) = get_or-set_other l u i 1 0 (λ e. omega arith) ∙ a.made i b ∙ sym (pick-ge i u 1 0 (omega arith)) ∙ pick-ge i (u + 1) 1 0 (omega arith)
-    at i b (no k) (no d) =
-        let e : i ≡ u = omega arith in
-        ap (entry (set l u 1)) e ∙ get_or-set_same l u 1 0 (omega (arith, a.long)) ∙ pick-lt i (u + 1) 1 0 (omega arith)
+    zeros : List ℕ
+    zeros = replicate 32 0
 
-pub weighing-end : {u : ℕ} {l : List ℕ} (held : People) (room below : ℕ) → Weighing u l → u ≤ below → below ≤ u
-    → OnceBelow held room below (record { held = held; room = room; weights = l })
-weighing-end {u} held room below a h k =
-    let e : u ≡ below = omega arith in
-    record { held = refl; room = refl; weights = λ i b. a.made i b ∙ ap (λ (j : ℕ). only_below j i) e }
+    long : length l ≡ h
+    long = ap length e ∙ length-replicate {A = ℕ} h 1
+
+    at : Dec (i < h) → entry (l ++ drop h zeros) i ≡ only_below h i
+    at (yes c) =
+        get_or-append l (drop h zeros) 0 i (omega (arith, long))
+        ∙ ap (λ (m : List ℕ). entry m i) e
+        ∙ get_or-replicate {A = ℕ} h i 1 0 c
+        ∙ pick-lt {A = ℕ} i h 1 0 c
+    at (no c) =
+        get_or-append_right l (drop h zeros) i 0 (omega (arith, long))
+        ∙ get_or-drop h zeros (i - length l) 0
+        ∙ get_or-replicate {A = ℕ} 32 (h + (i - length l)) 0 0 (omega (arith, long))
+        ∙ pick-ge {A = ℕ} i h 1 0 (omega arith)
+
+pub weighs : (held : People) (room h n : ℕ) (l : List ℕ) → h ≤ 32 → n ≡ h → l ≡ replicate n 1
+    → OnceBelow held room h (record { held = held; room = room; weights = l ++ drop h (replicate 32 0) })
+weighs held room h n l k q e = record { held = refl; room = refl; weights = weighed h l k (e ∙ ap (λ (m : ℕ). replicate m 1) q) }
 
 -- ---- trials
 
@@ -214,24 +165,9 @@ module _ (sets : Absences) (n : ℕ) (M : People) where
       ∙ ap capped (add_assoc here (missed u) (pick (has (number M) u) (how_many (but (weight_of sets) u) n sets.room (number sets.held)) 0))
       ∙ ap (λ (m : ℕ). capped (here + missed m)) (sym (add-one u))
 
-  pub trials-end : (u v sum : ℕ) → Trials u sum → u ≤ v → v ≤ u → sum ≡ capped (here + missed v)
-  trials-end u v sum t a b = let e : u ≡ v = omega arith in t ∙ ap (λ (m : ℕ). capped (here + missed m)) e
-
 -- ---- one more for everybody
 
+-- what the loop holds: below u everybody counts once more
 pub record Raising (l : List ℕ) (u : ℕ) (more : List ℕ) : Type 0 where
-  pub long : length more ≡ 32
   pub done : (i : ℕ) → i < u → entry more i ≡ entry l i + 1
-
-pub raising-start : (l more : List ℕ) → length more ≡ 32 → Raising l 0 more
-raising-start l more h = record { long = h; done = λ i b. absurd (omega arith) }
-
-pub raising-step : {l more : List ℕ} {u : ℕ} → Raising l u more → u < 32 → Raising l (u + 1) (set more u (entry l u + 1))
-raising-step {l} {more} {u} a h = record { long = length-set more u (entry l u + 1) ∙ a.long; done = λ i b. at i (lt-or-eq i u (omega arith)) }
-  where
-    at : (i : ℕ) → (i ≡ u) ⊎ (i < u) → entry (set more u (entry l u + 1)) i ≡ entry l i + 1
-    at i (inl e) = ap (entry (set more u (entry l u + 1))) e ∙ get_or-set_same more u (entry l u + 1) 0 (omega (arith, a.long)) ∙ ap (λ (j : ℕ). entry l j + 1) (sym e)
-    at i (inr b) = get_or-set_other more u i (entry l u + 1) 0 (λ e. omega arith) ∙ a.done i b
-
-pub raised_all : {u : ℕ} {more : List ℕ} (sets : Absences) → Raising sets.weights u more → 32 ≤ u → Raised sets (record { held = sets.held; room = sets.room; weights = more })
-raised_all sets a h = record { held = refl; room = refl; weights = λ i b. a.done i (omega arith) }
+  pub left : (i : ℕ) → u ≤ i → entry more i ≡ entry l i

@@ -33,27 +33,23 @@ pub fn once(held: People, room: u32) -> Absences
     ensures { result ≡ once held room }
 {
     Absences {
-        held: held,
-        room: room,
-        weights: [1u8; 32],
+        held,
+        room,
+        weights: [1; 32],
     }
 }
 
-// The same, where the others are among the first `below` people.
+// The same, where the others are among the first `below` people. Two functions, since `once` has no bound to ask for.
 pub fn once_below(held: People, room: u32, below: u8) -> Absences
     requires { below ≤ width }
     ensures { OnceBelow held room below result }
 {
-    let mut weights = [0u8; 32];
-    let mut u: u8 = 0;
-    while u < below {
-        weights[u as usize] = 1;
-        u += 1;
-    }
+    let mut weights = [0; 32];
+    weights[..below as usize].fill(1);
     Absences {
-        held: held,
-        room: room,
-        weights: weights,
+        held,
+        room,
+        weights,
     }
 }
 
@@ -61,7 +57,7 @@ pub fn once_below(held: People, room: u32, below: u8) -> Absences
 fn capped(x: u64) -> u64
     ensures { result ≡ capped x }
 {
-    if x < MOST { x } else { MOST }
+    x.min(MOST)
 }
 
 // A product of two as it is told.
@@ -96,11 +92,8 @@ pub fn how_many(people: u8, sets: Absences) -> u64
         return 1;
     }
     let mut sums = [1u64; SUMS];
-    let mut u: u8 = 0;
-    while u < people {
-        let next = one_more(sums, room, weight(sets, u));
-        sums = next;
-        u += 1;
+    for u in 0..people {
+        sums = one_more(sums, room, weight(sets, u));
     }
     sums[room]
 }
@@ -115,12 +108,9 @@ fn one_more(sums: [u64; SUMS], room: usize, w: u8) -> [u64; SUMS]
     }
     let mut out = [0u64; SUMS];
     let mut before: u64 = 0;
-    let mut j: usize = 0;
-    while j <= room {
-        let here = sums[j];
-        out[j] = capped(here + (w as u64) * before);
-        before = here;
-        j += 1;
+    for (j, here) in sums[..=room].iter().enumerate() {
+        out[j] = capped(*here + (w as u64) * before);
+        before = *here;
     }
     out
 }
@@ -131,10 +121,10 @@ pub fn weight(sets: Absences, u: u8) -> u8
     ensures { result ≡ pick (has (number sets.held) u) 0 (weight_of sets u) }
 {
     if sets.held.has(u) {
-        return 0;
+        0
+    } else {
+        sets.weights[u as usize]
     }
-    let weights = sets.weights;
-    weights[u as usize]
 }
 
 // The trials until person v is tried, over all sets: v's own, and one for each of `missed` who comes before v and is present.
@@ -143,11 +133,8 @@ pub fn trials_to(people: u8, sets: Absences, missed: People, v: u8) -> u64
     ensures { result ≡ capped (how_many (weight_of sets) people sets.room (number sets.held) + how_many_miss (weight_of sets) people sets.room (number sets.held) (number missed) v) }
 {
     let mut sum = how_many(people, sets);
-    let mut u: u8 = 0;
-    while u < v {
-        let next = capped(sum + trials_of(people, sets, missed, u));
-        sum = next;
-        u += 1;
+    for u in 0..v {
+        sum = capped(sum + trials_of(people, sets, missed, u));
     }
     sum
 }
@@ -158,9 +145,10 @@ fn trials_of(people: u8, sets: Absences, missed: People, u: u8) -> u64
     ensures { result ≡ capped (pick (has (number missed) u) (how_many (but (weight_of sets) u) people sets.room (number sets.held)) 0) }
 {
     if missed.has(u) {
-        return how_many(people, staying(sets, u));
+        how_many(people, staying(sets, u))
+    } else {
+        0
     }
-    0
 }
 
 // The sets that person v does not join.
@@ -178,12 +166,10 @@ pub fn joined(sets: Absences, v: u8) -> Absences
     requires { 0 < sets.room }
     ensures { JoinedBy sets v result }
 {
-    let held = sets.held.with(v);
-    let weights = sets.weights;
     Absences {
-        held: held,
+        held: sets.held.with(v),
         room: sets.room - 1,
-        weights: weights,
+        ..sets
     }
 }
 
@@ -192,17 +178,9 @@ pub fn raised(sets: Absences) -> Absences
     requires { (u : ℕ) → u < width → weight_of sets u < 255 }
     ensures { Raised sets result }
 {
-    let held = sets.held;
-    let weights = sets.weights;
-    let mut more = [0u8; 32];
-    let mut u: usize = 0;
-    while u < 32 {
-        more[u] = weights[u] + 1;
-        u += 1;
+    let mut next = sets;
+    for weight in &mut next.weights {
+        *weight += 1;
     }
-    Absences {
-        held: held,
-        room: sets.room,
-        weights: more,
-    }
+    next
 }

@@ -2,6 +2,7 @@
 use mathlib.Core.Path.{◌≡◌, refl, sym, ap, ap₂, ◌∙◌, subst}
 use mathlib.Core.Bool.{Bool, true, false, not, ◌&&◌, true≢false}
 use mathlib.Core.List.{List}
+use mathlib.Core.Option.{none}
 use Prim.Native.Nat.{ℕ, ◌-◌, ◌^◌, ◌<◌}
 use native.Mathlib.Decide.{ℕ_discrete}
 use native.Mathlib.Omega.{arith}
@@ -11,7 +12,8 @@ use Rattle.sets.specs.Sets.{has, without, lowest}
 use Rattle.sets.specs.Lists.{value_or}
 use Rattle.sets.proofs.Lists.{true-and}
 use Rattle.sets.proofs.Bits.{has-empty}
-use Rattle.sets.proofs.Counting.{has-set_of}
+use Rattle.sets.proofs.Counting.{has-set_of, set_of-ext, set_of-has}
+use Rattle.sets.proofs.Members.{lowest-nobody}
 use Rattle.sets.proofs.Masks.{everybody-is}
 use Rattle.cases.specs.declared.Person.{Person}
 use Rattle.cases.specs.declared.Step.{Step}
@@ -30,6 +32,12 @@ use Rattle.tries.specs.Trying.{step_on, several_on, Alone}
 pub several-found : (b : List ℕ) (p : Filled) (r low : ℕ) {left : ℕ} → r ≡ ready_on b p → low ≡ value_or 32 (lowest 32 r) → left ≡ without 32 r low → not (eqb left 0) ≡ several_on b p
 unfolding several_on step_on
 several-found b p r low e d f = ap (λ (x : ℕ). not (eqb x 0)) (f ∙ ap₂ (λ (x y : ℕ). without 32 x y) e (d ∙ ap (λ (x : ℕ). value_or 32 (lowest 32 x)) e))
+
+-- none is ready, and so no other
+pub several-none : (b : List ℕ) (p : Filled) (r : ℕ) → r ≡ ready_on b p → none ≡ lowest 32 r → false ≡ several_on b p
+several-none b p r e d =
+    let nobody : without 32 r 32 ≡ 0 = set_of-ext (λ w. has r w && not (eqb w 32)) (has 0) 32 (λ v h. ap (λ (x : Bool). x && not (eqb v 32)) (lowest-nobody 32 r (sym d) v h) ∙ sym (has-empty v)) ∙ set_of-has 32 0 (omega arith) in
+    ap (λ (x : ℕ). not (eqb x 0)) (sym nobody) ∙ several-found b p r 32 e (ap (value_or 32) d) refl
 
 pub is-alone : (b : List ℕ) (p : Filled) {r : Bool} → r ≡ several_on b p → r ≡ false → Alone b p
 unfolding several_on

@@ -92,11 +92,6 @@ module _ {A R S : Type 0} {h : Hunt A R S} {a : A} {c : ℕ} (alike : Alike h a 
 
 -- ---- the sum, as the code makes it
 
--- it is far below 2 ^ 64
-pub judgings-small : {m c : ℕ} (F : ℕ) → m ≡ size width F → c < 4294967296 → m * c ≤ 137438953440
-unfolding size
-judgings-small {m} {c} F e h = let l : m ≤ 32 = omega (arith, e, count_most (has F) width) in let k : c ≤ 4294967295 = omega arith in mul-le-mul l k
-
 module _ (T F used c limit : ℕ) {a m : ℕ} (e : a ≡ size width T) (d : m ≡ size width F) where
   sum_is : used + (a + m * c) ≡ all_trials T F used c
   sum_is = ap₂ (λ (x y : ℕ). used + (x + y * c)) e d

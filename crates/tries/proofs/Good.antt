@@ -239,15 +239,6 @@ module _ (limit T F c : ℕ) where
       pub good-within : passed + 1 + (t + 1) * c ≤ limit → whole (record { got = none; trials = passed + 1 + (t + 1) * c }) ≡ cut limit (good_from T F 0 t c)
       good-within h = ends limit (good_from T F 0 t c) none (passed + 1 + (t + 1) * c) good-many h
 
--- the one with t before is among 32
-pub good-small : {m c t : ℕ} (F : ℕ) → m ≡ size width F → t < m → c < 4294967296 → (t + 1) * c ≤ 137438953440
-unfolding size
-good-small {m} {c} {t} F e h k = let l : t + 1 ≤ 32 = omega (arith, e, count_most (has F) width) in let n : c ≤ 4294967295 = omega arith in mul-le-mul l n
-
-pub before_small : {x : ℕ} (T v : ℕ) → x ≡ size_before width T v → x ≤ 32
-unfolding size_before
-before_small T v e = omega (arith, e, count_most (λ w. has T w && ltb w v) width)
-
 -- ---- the member with k members before
 
 pub at_none : (s k : ℕ) → none ≡ lowest width s → 0 ≡ member_at s k

@@ -7,8 +7,7 @@ use native.Mathlib.Nat.{min-eq_left, lt_of_lt_of_le}
 use native.Mathlib.Omega.{arith}
 use Rattle.sets.specs.Sets.{size, sets, next_set}
 use Rattle.sets.specs.Stored.{width, number, no_people, next_number}
-use Rattle.sets.specs.declared.Next.{Next}
-use Rattle.sets.specs.declared.Next.TheVariants as next
+use Rattle.std.specs.Prelude as code
 use Rattle.sets.specs.declared.People.{People}
 use lib.Pow.{pow_mono}
 use Rattle.sets.proofs.Counting.{size-width}
@@ -159,11 +158,11 @@ gone-walk b n t k A z p h l e g =
 
 -- ---- the next set, as the code answers it
 
-pub next-some : {r : Next} {x : People} (n t c s : ℕ) → n ≤ width → r ≡ next.Set x → next_number r ≡ next_set (min n width) t c s → some (number x) ≡ next_set n t c s
+pub next-some : {r : code.Option People} {x : People} (n t c s : ℕ) → n ≤ width → r ≡ code.Some x → next_number r ≡ next_set (min n width) t c s → some (number x) ≡ next_set n t c s
 unfolding next_number
 next-some n t c s h e k = sym (ap next_number e) ∙ k ∙ ap (λ (m : ℕ). next_set m t c s) (min-eq_left h)
 
-pub next-none : {r : Next} (n t c s : ℕ) → n ≤ width → r ≡ next.Nothing → next_number r ≡ next_set (min n width) t c s → none ≡ next_set n t c s
+pub next-none : {r : code.Option People} (n t c s : ℕ) → n ≤ width → r ≡ code.None → next_number r ≡ next_set (min n width) t c s → none ≡ next_set n t c s
 unfolding next_number
 next-none n t c s h e k = sym (ap next_number e) ∙ k ∙ ap (λ (m : ℕ). next_set m t c s) (min-eq_left h)
 

@@ -1,24 +1,23 @@
 -- A line of people who are all judged alike.
-use Rattle.std.proofs.Math.Option.{Option, none, some}
-use Rattle.std.specs.Prelude.{ℕ, suc, ◌+◌, ◌*◌, leb, get_or}
+use Rattle.std.proofs.Math.Option as math
+use Rattle.std.proofs.Math.Option.{none, some}
+use Rattle.std.specs.Prelude.{Option, Some, None, ℕ, suc, ◌+◌, ◌*◌, leb, get_or}
 use Rattle.sets.specs.Lists.{pick, only_if}
 use Rattle.sets.specs.Sets.{size, size_before, members}
 use Rattle.sets.specs.Stored.{width}
 use Rattle.games.specs.Walks.{Search}
-use Rattle.tries.specs.declared.Spent.{Spent}
-use Rattle.tries.specs.declared.Spent.TheVariants as spent
 
 -- the trials used when all of T are tried, where the judging of each of F takes c
 abbrev pub all_trials : ℕ → ℕ → ℕ → ℕ → ℕ
 all_trials T F used c = used + (size width T + size width F * c)
 
 -- nothing where they are more than the limit
-unfoldable pub all_spent : ℕ → ℕ → ℕ → ℕ → ℕ → Option ℕ
+unfoldable pub all_spent : ℕ → ℕ → ℕ → ℕ → ℕ → math.Option ℕ
 all_spent T F used c limit = only_if (leb (all_trials T F used c) limit) (all_trials T F used c)
 
-abbrev pub spent_outcome : Spent → Option ℕ
-spent_outcome spent.Limit = none
-spent_outcome (spent.All c) = some c
+abbrev pub spent_outcome : Option ℕ → math.Option ℕ
+spent_outcome None = none
+spent_outcome (Some c) = some c
 
 -- the member of a set with k members before it
 unfoldable pub member_at : ℕ → ℕ → ℕ

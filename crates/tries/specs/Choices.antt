@@ -8,9 +8,9 @@ use Rattle.cases.specs.Case.{most_steps}
 use Rattle.boards.specs.Board.{allowed_on, ready_on, fits_on}
 use Rattle.boards.specs.Looked.{Agree}
 use Rattle.lines.specs.declared.Line.{Line}
+use Rattle.lines.specs.declared.Lines.{Lines}
 use Rattle.lines.specs.Moves.{lines_of}
-use Rattle.tries.specs.declared.StepLine.{StepLine}
-use Rattle.tries.specs.declared.Choices.{Choices}
+use Rattle.tries.specs.declared.Looked.{Looked}
 
 module _ (b : List ℕ) (n : ℕ) (p : Filled) where
   -- who of n people may do step s, each a trial there
@@ -24,10 +24,10 @@ module _ (b : List ℕ) (n : ℕ) (p : Filled) where
   abbrev pub lines_on : List Line
   lines_on = map line_on (keep (has (ready_on b p)) (upto most_steps))
 
-  abbrev pub LineOf : ℕ → StepLine → Type 0
-  LineOf s r = (q : Filled) → Agree r.looked p q → r.line ≡ record { step = record { 0 = s }; tried = stored (tried_at s); fit = stored (common width (tried_at s) (fits_on b q s)) }
+  abbrev pub LineOf : ℕ → Looked Line → Type 0
+  LineOf s r = (q : Filled) → Agree r.looked p q → r.value ≡ record { step = record { 0 = s }; tried = stored (tried_at s); fit = stored (common width (tried_at s) (fits_on b q s)) }
 
 -- the lines at p, also from every position that agrees with p at the steps looked at
-pub record LinesUp (b : List ℕ) (n : ℕ) (p : Filled) (r : Choices) : Type 0 where
-  pub lines : (q : Filled) → Agree r.looked p q → lines_of r.lines ≡ lines_on b n q
-  pub few : r.lines.count ≤ most_steps
+pub record LinesUp (b : List ℕ) (n : ℕ) (p : Filled) (r : Looked Lines) : Type 0 where
+  pub lines : (q : Filled) → Agree r.looked p q → lines_of r.value ≡ lines_on b n q
+  pub few : r.value.count ≤ most_steps

@@ -5,12 +5,14 @@ use Rattle.sets.specs.Lists.{only_if, pick, value_or}
 use Rattle.sets.specs.Sets.{has, without, common, difference, everybody, size, size_before, lowest}
 use Rattle.sets.specs.Stored.{width, number}
 use Rattle.cases.specs.declared.Filled.{Filled}
+use Rattle.cases.specs.declared.Person.{Person}
 use Rattle.cases.specs.Case.{most_steps}
 use Rattle.boards.specs.Board.{allowed_on, ready_on, fits_on}
 use Rattle.boards.specs.Looked.{Agree}
-use Rattle.tries.specs.declared.Lined.{Lined}
-use Rattle.tries.specs.declared.Try.{Try}
-use Rattle.tries.specs.declared.Try.TheVariants as try
+use Rattle.lines.specs.declared.Try.{Try}
+use Rattle.lines.specs.declared.Try.TheVariants as try
+use Rattle.tries.specs.declared.Line.{Line}
+use Rattle.tries.specs.declared.Looked.{Looked}
 
 module _ (b : List ℕ) where
   -- the lowest step that is ready, 32 where none is
@@ -35,8 +37,8 @@ pub record InLine (b : List ℕ) (n A : ℕ) (p : Filled) (T F : ℕ) : Type 0 w
   pub fit : F ≡ common width T (fits_on b p (step_on b p))
 
 -- the line at p, also from every position that agrees with p at the steps looked at
-abbrev pub LinedUp : List ℕ → ℕ → ℕ → Filled → Lined → Type 0
-LinedUp b n A p r = (q : Filled) → Agree r.looked p q → InLine b n A q (number r.line.tried) (number r.line.fit)
+abbrev pub LinedUp : List ℕ → ℕ → ℕ → Filled → Looked Line → Type 0
+LinedUp b n A p r = (q : Filled) → Agree r.looked p q → InLine b n A q (number r.value.tried) (number r.value.fit)
 
 -- the trials until the first of F is tried, who is the last of them; where F is empty, until all of T are
 abbrev pub trials_to : ℕ → Option ℕ → ℕ
@@ -47,7 +49,7 @@ trials_to T (some v) = suc (size_before width T v)
 unfoldable pub tried : ℕ → ℕ → ℕ → ℕ → Option (Option ℕ × ℕ)
 tried T F used limit = let c = used + trials_to T (lowest width F) in only_if (leb c limit) (lowest width F, c)
 
-abbrev pub try_outcome : Try → Option (Option ℕ × ℕ)
+abbrev pub try_outcome : Try Person → Option (Option ℕ × ℕ)
 try_outcome try.Limit = none
 try_outcome (try.Nobody c) = some (none, c)
-try_outcome (try.Person v c) = some (some v.0, c)
+try_outcome (try.Move v c) = some (some v.0, c)

@@ -16,7 +16,8 @@ use boards::{PLACES, allowed, fitting, ready};
 use cases::{Case, Filled, Person, Step};
 pub use choice::lines_up;
 pub use everyone::{all_bad, all_good, rest_alike};
-use sets::{Lowest, People, lowest_in};
+pub use lines::Try;
+use sets::{People, lowest_in};
 
 // How a search for a plan ended.
 #[derive(Clone, Copy)]
@@ -44,10 +45,10 @@ pub enum Verdict {
     No(People, u32),
 }
 
-// A verdict, and the filled steps whose people were looked at.
+// What a walk or a line-up tells, and the filled steps whose people were looked at to tell it.
 #[derive(Clone, Copy)]
-pub struct Walked {
-    pub verdict: Verdict,
+pub struct Looked<T> {
+    pub value: T,
     pub looked: u8,
 }
 
@@ -67,13 +68,6 @@ pub enum Turn {
     Holds(u32),
 }
 
-// A turn, and the filled steps whose people were looked at.
-#[derive(Clone, Copy)]
-pub struct Turned {
-    pub turn: Turn,
-    pub looked: u8,
-}
-
 // The people still to be tried at a position: each of `tried` costs a trial, and with those of `fit`, who are among them, every rule holds.
 #[derive(Clone, Copy)]
 pub struct Line {
@@ -81,47 +75,11 @@ pub struct Line {
     pub fit: People,
 }
 
-// A line, and the filled steps whose people were looked at to make it.
-#[derive(Clone, Copy)]
-pub struct Lined {
-    pub line: Line,
-    pub looked: u8,
-}
-
-// The line of a step, and the filled steps whose people were looked at to make it.
-#[derive(Clone, Copy)]
-pub struct StepLine {
-    pub line: lines::Line,
-    pub looked: u8,
-}
-
-// The lines at a position, of everybody, and the filled steps whose people were looked at to make them.
-#[derive(Clone, Copy)]
-pub struct Choices {
-    pub lines: lines::Lines,
-    pub looked: u8,
-}
-
-// The next person worth a try, with the trials used when they are tried; or nobody, with the trials used when all are.
-#[derive(Clone, Copy)]
-pub enum Try {
-    Limit,
-    Nobody(u32),
-    Person(Person, u32),
-}
-
-// The trials used when a whole line is tried, or that they are more than the limit.
-#[derive(Clone, Copy)]
-pub enum Spent {
-    Limit,
-    All(u32),
-}
-
-// The lowest step that is ready, 32 where none is.
+// The lowest step that is ready, 32 where none is: a number, since `step_on` and the clauses on lines speak of it so.
 pub fn next_step(board: &[u32; PLACES], p: Filled) -> Step
     ensures { result.0 ≡ step_on board.now p }
 {
-    Step(lowest_in(ready(board, p) as u32))
+    Step(lowest_in(ready(board, p) as u32).unwrap_or(32))
 }
 
 // Is more than one step ready?
@@ -129,23 +87,31 @@ pub fn several(board: &[u32; PLACES], p: Filled) -> bool
     ensures { result ≡ several_on board.now p }
 {
     let ready = ready(board, p) as u32;
-    sets::without(ready, lowest_in(ready)) != 0
+    match lowest_in(ready) {
+        None => false,
+        Some(s) => sets::without(ready, s) != 0,
+    }
 }
 
-// The line at a position, for the step that is ready, with some people away. Where no step is ready nobody is in line.
-pub fn line_up(board: &[u32; PLACES], people: u8, absent: People, p: Filled, step: Step) -> Lined
+// The line at a position, for the step that is ready, with some people away. Where no step is ready nobody is in line. Words and people stay two parameters,
+// here and in `lines_up`: the contract holds for every number of people, and a `Board` has at most 32.
+pub fn line_up(
+    board: &[u32; PLACES],
+    people: u8,
+    absent: People,
+    p: Filled,
+    step: Step,
+) -> Looked<Line>
     requires { step.0 ≡ step_on board.now p }
     ensures { LinedUp board.now people (number absent) p result }
 {
     let at = step.0;
     if Case::STEPS <= (at as usize) {
-        let nobody = People::none();
-        let line = Line {
-            tried: nobody,
-            fit: nobody,
-        };
-        return Lined {
-            line: line,
+        return Looked {
+            value: Line {
+                tried: People::none(),
+                fit: People::none(),
+            },
             looked: 0,
         };
     }
@@ -153,36 +119,35 @@ pub fn line_up(board: &[u32; PLACES], people: u8, absent: People, p: Filled, ste
         .difference(absent)
         .common(People::everybody(people));
     let fitted = fitting(board, p, step, tried);
-    let fit = fitted.people;
-    let line = Line {
-        tried: tried,
-        fit: fit,
-    };
-    Lined {
-        line: line,
+    Looked {
+        value: Line {
+            tried,
+            fit: fitted.people,
+        },
         looked: fitted.looked,
     }
 }
 
-// The next person worth a try, where `used` trials were used before.
-pub fn next_try(line: Line, used: u32, limit: u32) -> Try
+// The next person worth a try, where `used` trials were used before, within the limit: a clause, since a search keeps `used` as a number that grows beside a
+// limit that stays.
+pub fn next_try(line: Line, used: u32, limit: u32) -> Try<Person>
     requires { used ≤ limit }
     ensures { try_outcome result ≡ tried (number line.tried) (number line.fit) used limit }
 {
     match line.fit.lowest() {
-        Lowest::Nobody => {
+        None => {
             let trials = line.tried.size();
             if limit - used < trials {
                 return Try::Limit;
             }
             Try::Nobody(used + trials)
         }
-        Lowest::Person(v) => {
+        Some(v) => {
             let passed = line.tried.before(v);
             if limit - used <= passed {
                 return Try::Limit;
             }
-            Try::Person(Person(v), used + passed + 1)
+            Try::Move(Person(v), used + passed + 1)
         }
     }
 }

@@ -9,8 +9,8 @@ use Rattle.advising.proofs.advice_choice.Given as goal
 
 abbrev pub invariant-loop-trials : goal.invariant-loop-trials
 invariant-loop-trials l =
-    (w : Search (ℕ × Done)) → Going (advice_hunt l.board l.people l.p l.lines l.t (l.left - 1)) l.lines w l.limit l.initial.at l.initial.used tt
-    → Going (advice_hunt l.board l.people l.p l.lines l.t (l.left - 1)) l.lines w l.limit l.at l.used tt
+    (w : Search (ℕ × Done)) → Going (advice_hunt l.board.words l.board.people l.p l.lines l.t (l.left - 1)) l.lines w l.limit l.initial.at l.initial.used tt
+    → Going (advice_hunt l.board.words l.board.people l.p l.lines l.t (l.left - 1)) l.lines w l.limit l.at l.used tt
 
 abbrev pub decreases-loop-trials : goal.decreases-loop-trials
 decreases-loop-trials l = togo l.at

@@ -11,8 +11,8 @@ use Rattle.advising.proofs.advice_walk.Given as goal
 
 abbrev pub invariant-loop-trials : goal.invariant-loop-trials
 invariant-loop-trials l =
-    (w : Search (ℕ × Done)) → Going (advice_hunt l.board l.people l.t (l.left - 1) l.p) w l.limit (number l.initial.line.tried) (number l.initial.line.fit) l.initial.used tt
-    → Going (advice_hunt l.board l.people l.t (l.left - 1) l.p) w l.limit (number l.line.tried) (number l.line.fit) l.used tt
+    (w : Search (ℕ × Done)) → Going (advice_hunt l.board.words l.board.people l.t (l.left - 1) l.p) w l.limit (number l.initial.line.tried) (number l.initial.line.fit) l.initial.used tt
+    → Going (advice_hunt l.board.words l.board.people l.t (l.left - 1) l.p) w l.limit (number l.line.tried) (number l.line.fit) l.used tt
 
 abbrev pub decreases-loop-trials : goal.decreases-loop-trials
 decreases-loop-trials l = size width (number l.line.fit)

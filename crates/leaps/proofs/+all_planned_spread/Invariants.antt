@@ -12,7 +12,7 @@ abbrev pub decreases-spread : goal.decreases-spread
 decreases-spread l = 2 * l.sets.room
 
 abbrev pub invariant-spread-loop-v : goal.invariant-spread-loop-v
-invariant-spread-loop-v l = Taking l.board l.people l.left l.p l.initial.stay l.initial.rest l.rest l.stay l.sum
+invariant-spread-loop-v l = Taking l.board.words l.board.people l.left l.p l.initial.stay l.initial.rest l.rest l.stay l.sum
 
 abbrev pub decreases-spread-loop-v : goal.decreases-spread-loop-v
 decreases-spread-loop-v l = size width (number l.rest)

@@ -29,23 +29,23 @@ decreases-desk_turn l = 3 * l.left
 abbrev pub invariant-away_from-loop-trials : goal.invariant-away_from-loop-trials
 invariant-away_from-loop-trials l =
     (q : Filled) → Agree l.looked l.p q
-    → Sweep (beats_on l.board l.people l.t (l.left - 1) q) (decremental (board_arena l.board l.people) l.t l.left (number l.away) q) l.people l.t (number l.away) l.limit (number l.gone) l.used
+    → Sweep (beats_on l.board.words l.board.people l.t (l.left - 1) q) (decremental (board_arena l.board.words l.board.people) l.t l.left (number l.away) q) l.board.people l.t (number l.away) l.limit (number l.gone) l.used
 
 abbrev pub decreases-away_from-loop-trials : goal.decreases-away_from-loop-trials
-decreases-away_from-loop-trials l = 2 ^ l.people - number l.gone
+decreases-away_from-loop-trials l = 2 ^ l.board.people - number l.gone
 
 abbrev pub invariant-away_choice-loop-trials : goal.invariant-away_choice-loop-trials
 invariant-away_choice-loop-trials l =
     (q : Filled) → Agree l.looked l.p q
-    → Sweep (beats_on l.board l.people l.t (l.left - 1) q) (decremental (board_arena l.board l.people) l.t l.left (number l.away) q) l.people l.t (number l.away) l.limit (number l.gone) l.used
+    → Sweep (beats_on l.board.words l.board.people l.t (l.left - 1) q) (decremental (board_arena l.board.words l.board.people) l.t l.left (number l.away) q) l.board.people l.t (number l.away) l.limit (number l.gone) l.used
 
 abbrev pub decreases-away_choice-loop-trials : goal.decreases-away_choice-loop-trials
-decreases-away_choice-loop-trials l = 2 ^ l.people - number l.gone
+decreases-away_choice-loop-trials l = 2 ^ l.board.people - number l.gone
 
 abbrev pub invariant-desk_turn-loop-trials : goal.invariant-desk_turn-loop-trials
 invariant-desk_turn-loop-trials l =
     (q : Filled) → Agree l.looked l.p q
-    → Going (desk_hunt l.board l.people l.t (number l.away) (l.left - 1) q) (beats_on l.board l.people l.t (l.left - 1) q (number l.away)) l.limit (number l.line.tried) (number l.line.fit) l.used tt
+    → Going (desk_hunt l.board.words l.board.people l.t (number l.away) (l.left - 1) q) (beats_on l.board.words l.board.people l.t (l.left - 1) q (number l.away)) l.limit (number l.line.tried) (number l.line.fit) l.used tt
 
 abbrev pub decreases-desk_turn-loop-trials : goal.decreases-desk_turn-loop-trials
 decreases-desk_turn-loop-trials l = size width (number l.line.fit)
@@ -53,7 +53,7 @@ decreases-desk_turn-loop-trials l = size width (number l.line.fit)
 abbrev pub invariant-desk_choice-loop-trials : goal.invariant-desk_choice-loop-trials
 invariant-desk_choice-loop-trials l =
     (q : Filled) → Agree l.looked l.p q
-    → many.Going (choosing.desk_hunt l.board l.people q l.lines l.t (number l.away) (l.left - 1)) l.lines (beats_on l.board l.people l.t (l.left - 1) q (number l.away)) l.limit l.at l.used tt
+    → many.Going (choosing.desk_hunt l.board.words l.board.people q l.lines l.t (number l.away) (l.left - 1)) l.lines (beats_on l.board.words l.board.people l.t (l.left - 1) q (number l.away)) l.limit l.at l.used tt
 
 abbrev pub decreases-desk_choice-loop-trials : goal.decreases-desk_choice-loop-trials
 decreases-desk_choice-loop-trials l = many.togo l.at

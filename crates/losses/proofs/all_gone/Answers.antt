@@ -3,9 +3,6 @@ use mathlib.Core.Path.{sym, ap, ◌∙◌}
 use Rattle.tries.specs.Outcomes.{turn_outcome}
 use Rattle.losses.proofs.all_gone.Goals as goal
 
-pub without_plan-turned-requires : goal.without_plan-turned-requires
-without_plan-turned-requires c = c.requires
-
 pub returns-in-Limit : goal.returns-in-Limit
 returns-in-Limit c = λ q a. sym (ap (turn_outcome _ _) c.in-Limit.is) ∙ c.without_plan-turned.ensures q a
 

@@ -26,16 +26,14 @@ use Rattle.boards.proofs.Looked.{agree_same, agree_left, agree_right}
 use Rattle.lines.specs.declared.Cursor.{Cursor}
 use Rattle.lines.specs.declared.Line.{Line}
 use Rattle.lines.specs.declared.Lines.{Lines}
-use Rattle.lines.specs.declared.Try as moves-try
-use Rattle.lines.specs.declared.Try.TheVariants as move_try
+use Rattle.std.specs.Prelude as code
+use Rattle.lines.specs.declared.Try.{Try}
+use Rattle.lines.specs.declared.Try.TheVariants as try
 use Rattle.lines.specs.Moves as moves
 use Rattle.lines.specs.Moves.{line_at}
 use Rattle.lines.proofs.Scans as many
 use Rattle.tries.specs.declared.PlanEnd.TheVariants as plan_end
 use Rattle.tries.specs.declared.Planned.{Planned}
-use Rattle.tries.specs.declared.Spent.{Spent}
-use Rattle.tries.specs.declared.Try.{Try}
-use Rattle.tries.specs.declared.Try.TheVariants as try
 use Rattle.tries.specs.Outcomes.{plan_ended, plan_outcome, SameAway, PlanTold}
 use Rattle.tries.specs.Trying.{step_on, InLine, tried, try_outcome}
 use Rattle.tries.specs.Alike.{spent_outcome, all_spent}
@@ -81,7 +79,7 @@ Along b n A k l p looked met T F used =
 
 module _ (b : List ℕ) (n k T F : ℕ) {A l : ℕ} {p : Filled} {looked met used : ℕ} (i : Inside F T) (g : Along b n A k l p looked met T F used) where
   -- somebody is to be tried: v, and that is trial number c
-  trying : {x y : ℕ} {r : Try} {v : Person} {c : ℕ} → (x ≡ difference width T A) × (y ≡ difference width F A) → try_outcome r ≡ tried x y used l → r ≡ try.Person v c
+  trying : {x y : ℕ} {r : Try Person} {v : Person} {c : ℕ} → (x ≡ difference width T A) × (y ≡ difference width F A) → try_outcome r ≡ tried x y used l → r ≡ try.Move v c
       → (q : Filled) (B : ℕ) → Agree looked p q → SameAway met A B → SameAway (difference width T (after width T v.0)) A B
       → Trying (plan_hunt b n B (k - 1) q) (plan (board_arena b n) B k q) l (difference width T B) (difference width F B) v.0 c tt
   trying {v = v} {c} w t is q B a s m =
@@ -89,12 +87,12 @@ module _ (b : List ℕ) (n k T F : ℕ) {A l : ℕ} {p : Filled} {looked met use
       (try-same T F v.0 i m used l c (sym (ap try_outcome is) ∙ t ∙ ap₂ (λ (x y : ℕ). tried x y used l) w.0 w.1))
 
   -- with the same people away
-  trying-own : {x y : ℕ} {r : Try} {v : Person} {c : ℕ} → (x ≡ difference width T A) × (y ≡ difference width F A) → try_outcome r ≡ tried x y used l → r ≡ try.Person v c → A < 2 ^ width
+  trying-own : {x y : ℕ} {r : Try Person} {v : Person} {c : ℕ} → (x ≡ difference width T A) × (y ≡ difference width F A) → try_outcome r ≡ tried x y used l → r ≡ try.Move v c → A < 2 ^ width
       → Trying (plan_hunt b n A (k - 1) p) (plan (board_arena b n) A k p) l (difference width T A) (difference width F A) v.0 c tt
   trying-own w t is h = trying w t is _ _ (agree_same _ _) (same_self _ _ h) (same_self _ _ h)
 
   -- the same are tried, whoever else is away
-  whole-line : {x y M B : ℕ} (r : Try) → (x ≡ difference width T A) × (y ≡ difference width F A) → try_outcome r ≡ tried x y used l → SameAway M A B → Inside T M
+  whole-line : {x y M B : ℕ} (r : Try Person) → (x ≡ difference width T A) × (y ≡ difference width F A) → try_outcome r ≡ tried x y used l → SameAway M A B → Inside T M
       → try_outcome r ≡ tried (difference width T B) (difference width F B) used l
   whole-line r w t s j =
       t ∙ ap₂ (λ (x y : ℕ). tried x y used l) (w.0 ∙ same_line s _ j) (w.1 ∙ same_line s _ (λ u h e. j u h (i u h e)))
@@ -121,9 +119,9 @@ record Judged (b : List ℕ) (n A k l : ℕ) (p : Filled) (T F v c step : ℕ) (
   pub inside : Inside F T
 
 module _ (b : List ℕ) (n A k l : ℕ) (p : Filled) where
-  judged : {looked met T F used : ℕ} {x y : ℕ} {r : Try} {v : Person} {c : ℕ} {placed : Filled} {step : Step} {sub : Planned} {looks upto both all : ℕ}
+  judged : {looked met T F used : ℕ} {x y : ℕ} {r : Try Person} {v : Person} {c : ℕ} {placed : Filled} {step : Step} {sub : Planned} {looks upto both all : ℕ}
       → Inside F T → Along b n A k l p looked met T F used
-      → (x ≡ difference width T A) × (y ≡ difference width F A) → try_outcome r ≡ tried x y used l → r ≡ try.Person v c
+      → (x ≡ difference width T A) × (y ≡ difference width F A) → try_outcome r ≡ tried x y used l → r ≡ try.Move v c
       → placed ≡ placed_at p step.0 v → step.0 ≡ step_on b p → PlanTold b n A (k - 1) (l - c) placed sub
       → looks ≡ joined most_steps looked sub.looked → upto ≡ difference width T (after width T v.0) → both ≡ joined width upto (number sub.met) → all ≡ joined width met both
       → Judged b n A k l p T F v.0 c step.0 sub looks all
@@ -167,7 +165,7 @@ module _ {b : List ℕ} {n A k l : ℕ} {p : Filled} {T F v c step : ℕ} {sub :
       inside_on = rw (behind.0, behind.1) (λ u h e. after-inside T F v u h (j.inside u h) e)
 
       -- the same are left, whoever else is away, where all in line were met
-      whole-rest : {x y M B : ℕ} (r : Spent) → (x ≡ difference width T' A) × (y ≡ difference width F' A) → spent_outcome r ≡ all_spent x y (c + more) more l → SameAway M A B → Inside T' M
+      whole-rest : {x y M B : ℕ} (r : code.Option ℕ) → (x ≡ difference width T' A) × (y ≡ difference width F' A) → spent_outcome r ≡ all_spent x y (c + more) more l → SameAway M A B → Inside T' M
           → spent_outcome r ≡ all_spent (difference width T' B) (difference width F' B) (c + more) more l
       whole-rest r w t s i =
           t ∙ ap₂ (λ (x y : ℕ). all_spent x y (c + more) more l) (w.0 ∙ same_line s _ i) (w.1 ∙ same_line s _ (λ u h e. i u h (inside_on u h e)))
@@ -184,8 +182,8 @@ Among b n A k l p lines looked at used =
     (q : Filled) → Agree looked p q → many.Going (choosing.plan_hunt b n q lines A (k - 1)) lines (plan (board_arena b n) A k q) l at used tt
 
 -- a move is to be tried
-moving : (b : List ℕ) (n A k : ℕ) {l : ℕ} {p : Filled} {lines : Lines} {looked : ℕ} {at : Cursor} {used : ℕ} {r : moves-try.Try} {m : Cursor} {c : ℕ}
-    → Among b n A k l p lines looked at used → moves.try_outcome r ≡ moves.next_move lines at used l → r ≡ move_try.Move m c
+moving : (b : List ℕ) (n A k : ℕ) {l : ℕ} {p : Filled} {lines : Lines} {looked : ℕ} {at : Cursor} {used : ℕ} {r : Try Cursor} {m : Cursor} {c : ℕ}
+    → Among b n A k l p lines looked at used → moves.try_outcome r ≡ moves.next_move lines at used l → r ≡ try.Move m c
     → (q : Filled) → Agree looked p q → many.Trying (choosing.plan_hunt b n q lines A (k - 1)) lines (plan (board_arena b n) A k q) l at m c tt
 moving b n A k g t is q a = many.try-move (g q a) _ _ (sym (ap moves.try_outcome is) ∙ t)
 
@@ -196,8 +194,8 @@ record Moved (b : List ℕ) (n A k l : ℕ) (p : Filled) (lines : Lines) (at m :
   pub said-own : Says b n k (l - c) sub sub.plan A (choosing.leaves b n p lines m)
 
 module _ (b : List ℕ) (n A k l : ℕ) (p : Filled) (lines : Lines) where
-  moved : {looked : ℕ} {at : Cursor} {used : ℕ} {r : moves-try.Try} {m : Cursor} {c : ℕ} {placed : Filled} {sub : Planned} {looks : ℕ}
-      → A < 2 ^ width → Among b n A k l p lines looked at used → moves.try_outcome r ≡ moves.next_move lines at used l → r ≡ move_try.Move m c
+  moved : {looked : ℕ} {at : Cursor} {used : ℕ} {r : Try Cursor} {m : Cursor} {c : ℕ} {placed : Filled} {sub : Planned} {looks : ℕ}
+      → A < 2 ^ width → Among b n A k l p lines looked at used → moves.try_outcome r ≡ moves.next_move lines at used l → r ≡ try.Move m c
       → (x : Line) → placed ≡ placed_at p x.step.0 (record { 0 = m.person }) → x ≡ line_at lines m.line → PlanTold b n A (k - 1) (l - c) placed sub
       → looks ≡ joined most_steps looked sub.looked
       → Moved b n A k l p lines at m c sub looks
@@ -212,7 +210,7 @@ module _ (b : List ℕ) (n A k l : ℕ) (p : Filled) (lines : Lines) where
 
 pub plan_choice-loop-trials-init : goal.plan_choice-loop-trials-init
 plan_choice-loop-trials-init t c = λ q a.
-    choosing.plan-choosing _ _ _ _ _ _ (some_left c.requires.0) c.requires.1 c.lines_up-choices.ensures.few (c.lines_up-choices.ensures.lines q a) _ _ c.without-lines.ensures
+    choosing.plan-choosing _ _ _ _ _ _ (some_left c.requires) (omega arith) c.lines_up-choices.ensures.few (c.lines_up-choices.ensures.lines q a) _ _ c.without-lines.ensures
 
 pub plan_choice-next_move-requires : goal.plan_choice-next_move-requires
 plan_choice-next_move-requires t c = (omega (arith, c.lines_up-choices.ensures.few, c.without-lines.ensures.count), (c.loop-trials.invariant _ (agree_same _ _)).enough)
@@ -227,34 +225,34 @@ plan_choice-returns-in-Nobody t c =
     nothing-chosen _ (all_met (people_fit c.args.absent (omega arith)) c.everybody-everybody.ensures)
     (λ q a. many.try-nobody (c.loop-trials.invariant q a) _ (sym (ap moves.try_outcome c.in-Nobody.is) ∙ c.next_move.ensures))
 
-pub plan_choice-bounds-lines-here : goal.plan_choice-bounds-lines-here
-plan_choice-bounds-lines-here t c =
-    omega (arith, (moving c.args.board.now c.args.people (number c.args.absent) c.args.left c.loop-trials.invariant c.next_move.ensures c.in-Move.is _ (agree_same _ _)).found.listed, c.without-lines.ensures.count, c.lines_up-choices.ensures.few)
+pub plan_choice-bounds-lines-m : goal.plan_choice-bounds-lines-m
+plan_choice-bounds-lines-m t c =
+    omega (arith, (moving c.args.board.now.words c.args.board.now.people (number c.args.absent) c.args.left c.loop-trials.invariant c.next_move.ensures c.in-Move.is _ (agree_same _ _)).found.listed, c.without-lines.ensures.count, c.lines_up-choices.ensures.few)
 
 pub plan_choice-overflow_sub-limit : goal.plan_choice-overflow_sub-limit
-plan_choice-overflow_sub-limit t c = (moving c.args.board.now c.args.people (number c.args.absent) c.args.left c.loop-trials.invariant c.next_move.ensures c.in-Move.is _ (agree_same _ _)).enough
+plan_choice-overflow_sub-limit t c = (moving c.args.board.now.words c.args.board.now.people (number c.args.absent) c.args.left c.loop-trials.invariant c.next_move.ensures c.in-Move.is _ (agree_same _ _)).enough
 
 pub plan_choice-plan_walk-sub-requires : goal.plan_choice-plan_walk-sub-requires
-plan_choice-plan_walk-sub-requires t c = (omega (arith, c.decreases, c.requires.0), c.requires.1)
+plan_choice-plan_walk-sub-requires t c = omega (arith, c.decreases, c.requires)
 
 pub plan_choice-returns-in-Limit-end : goal.plan_choice-returns-in-Limit-end
 unfolding line_at
 plan_choice-returns-in-Limit-end t c =
-    let j = moved c.args.board.now c.args.people (number c.args.absent) c.args.left c.args.limit c.args.p c.without-lines.result (people_fit c.args.absent (omega arith)) c.loop-trials.invariant c.next_move.ensures
+    let j = moved c.args.board.now.words c.args.board.now.people (number c.args.absent) c.args.left c.args.limit c.args.p c.without-lines.result (people_fit c.args.absent (omega arith)) c.loop-trials.invariant c.next_move.ensures
     c.in-Move.is _ c.placed.ensures refl c.plan_walk-sub.ensures c.joined_steps-looked.ensures in
     nothing-chosen _ (all_met (people_fit c.args.absent (omega arith)) c.everybody-everybody.ensures) (λ q a. many.sub-limit (j.judging q a) (sym (ap (plan_ended _ _) c.in-Limit-end.is) ∙ (j.said q a).1))
 
 pub plan_choice-overflow_add-result : goal.plan_choice-overflow_add-result
 unfolding line_at
 plan_choice-overflow_add-result t c =
-    let j = moved c.args.board.now c.args.people (number c.args.absent) c.args.left c.args.limit c.args.p c.without-lines.result (people_fit c.args.absent (omega arith)) c.loop-trials.invariant c.next_move.ensures
+    let j = moved c.args.board.now.words c.args.board.now.people (number c.args.absent) c.args.left c.args.limit c.args.p c.without-lines.result (people_fit c.args.absent (omega arith)) c.loop-trials.invariant c.next_move.ensures
     c.in-Move.is _ c.placed.ensures refl c.plan_walk-sub.ensures c.joined_steps-looked.ensures in
     omega (arith, c.ranges.limit.fits, many.sub_within (j.judging _ (agree_same _ _)) _ _ (sym (ap (plan_ended _ _) c.in-Yes.is) ∙ j.said-own))
 
 pub plan_choice-returns-in-Yes : goal.plan_choice-returns-in-Yes
 unfolding line_at
 plan_choice-returns-in-Yes t c =
-    let j = moved c.args.board.now c.args.people (number c.args.absent) c.args.left c.args.limit c.args.p c.without-lines.result (people_fit c.args.absent (omega arith)) c.loop-trials.invariant c.next_move.ensures
+    let j = moved c.args.board.now.words c.args.board.now.people (number c.args.absent) c.args.left c.args.limit c.args.p c.without-lines.result (people_fit c.args.absent (omega arith)) c.loop-trials.invariant c.next_move.ensures
     c.in-Move.is _ c.placed.ensures refl c.plan_walk-sub.ensures c.joined_steps-looked.ensures in
     chosen _ (all_met (people_fit c.args.absent (omega arith)) c.everybody-everybody.ensures)
     (many.sub-done (j.judging _ (agree_same _ _)) _ _ (sym (ap (plan_ended _ _) c.in-Yes.is) ∙ j.said-own) _ refl)
@@ -263,21 +261,21 @@ plan_choice-returns-in-Yes t c =
 pub plan_choice-overflow_add-used : goal.plan_choice-overflow_add-used
 unfolding line_at
 plan_choice-overflow_add-used t c =
-    let j = moved c.args.board.now c.args.people (number c.args.absent) c.args.left c.args.limit c.args.p c.without-lines.result (people_fit c.args.absent (omega arith)) c.loop-trials.invariant c.next_move.ensures
+    let j = moved c.args.board.now.words c.args.board.now.people (number c.args.absent) c.args.left c.args.limit c.args.p c.without-lines.result (people_fit c.args.absent (omega arith)) c.loop-trials.invariant c.next_move.ensures
     c.in-Move.is _ c.placed.ensures refl c.plan_walk-sub.ensures c.joined_steps-looked.ensures in
     omega (arith, c.ranges.limit.fits, many.sub_within (j.judging _ (agree_same _ _)) _ _ (sym (ap (plan_ended _ _) c.in-No.is) ∙ j.said-own))
 
 pub plan_choice-overflow_add-at : goal.plan_choice-overflow_add-at
 plan_choice-overflow_add-at t c =
-    omega (arith, (moving c.args.board.now c.args.people (number c.args.absent) c.args.left c.loop-trials.invariant c.next_move.ensures c.in-Move.is _ (agree_same _ _)).found.listed, c.without-lines.ensures.count, c.lines_up-choices.ensures.few)
+    omega (arith, (moving c.args.board.now.words c.args.board.now.people (number c.args.absent) c.args.left c.loop-trials.invariant c.next_move.ensures c.in-Move.is _ (agree_same _ _)).found.listed, c.without-lines.ensures.count, c.lines_up-choices.ensures.few)
 
 pub plan_choice-loop-trials-smaller : goal.plan_choice-loop-trials-smaller
-plan_choice-loop-trials-smaller t c = (moving c.args.board.now c.args.people (number c.args.absent) c.args.left c.loop-trials.invariant c.next_move.ensures c.in-Move.is _ (agree_same _ _)).fewer-own
+plan_choice-loop-trials-smaller t c = (moving c.args.board.now.words c.args.board.now.people (number c.args.absent) c.args.left c.loop-trials.invariant c.next_move.ensures c.in-Move.is _ (agree_same _ _)).fewer-own
 
 pub plan_choice-loop-trials-preserved : goal.plan_choice-loop-trials-preserved
 unfolding line_at
 plan_choice-loop-trials-preserved t c =
-    let j = moved c.args.board.now c.args.people (number c.args.absent) c.args.left c.args.limit c.args.p c.without-lines.result (people_fit c.args.absent (omega arith)) c.loop-trials.invariant c.next_move.ensures
+    let j = moved c.args.board.now.words c.args.board.now.people (number c.args.absent) c.args.left c.args.limit c.args.p c.without-lines.result (people_fit c.args.absent (omega arith)) c.loop-trials.invariant c.next_move.ensures
     c.in-Move.is _ c.placed.ensures refl c.plan_walk-sub.ensures c.joined_steps-looked.ensures in
     λ q a. many.sub-on (j.judging q a) _ _ (sym (ap (plan_ended _ _) c.in-No.is) ∙ (j.said q a).1) _ refl
 
@@ -292,16 +290,16 @@ plan_walk-returns-then-left-eq0 t c =
     }
 
 pub plan_walk-plan_choice-requires : goal.plan_walk-plan_choice-requires
-plan_walk-plan_choice-requires t c = (omega (arith, c.decreases), (above_zero c.if-left-eq0.false, c.requires))
+plan_walk-plan_choice-requires t c = (omega (arith, c.decreases), above_zero c.if-left-eq0.false)
 
 -- before the loop: everybody is in line
 pub plan_walk-loop-trials-init : goal.plan_walk-loop-trials-init
 plan_walk-loop-trials-init t c =
-    let lined = λ (q : Filled) (a : Agree c.line_up-lined.result.looked c.args.p q). (subst (λ (z : ℕ). InLine c.args.board.now c.args.people z q (number c.line_up-lined.result.line.tried) (number c.line_up-lined.result.line.fit))
+    let lined = λ (q : Filled) (a : Agree c.line_up-lined.result.looked c.args.p q). (subst (λ (z : ℕ). InLine c.args.board.now.words c.args.board.now.people z q (number c.line_up-lined.result.value.tried) (number c.line_up-lined.result.value.fit))
     (nobody-shown c.none-2.ensures) (c.line_up-lined.ensures q a)) in
-    let alone = λ (q : Filled) (a : Agree c.line_up-lined.result.looked c.args.p q). alone-agree c.args.board.now a (is-alone _ _ c.several.ensures c.if-several.false) in (
-      fit-inside _ _ _ _ _ _ (alone _ (agree_same _ _)) (lined _ (agree_same _ _)) c.requires,
-      λ q B a s. plan-going _ _ _ _ _ _ _ c.if-left-eq0.false c.requires (alone q a) B (line-without B _ _ (lined q a) refl refl),
+    let alone = λ (q : Filled) (a : Agree c.line_up-lined.result.looked c.args.p q). alone-agree c.args.board.now.words a (is-alone _ _ c.several.ensures c.if-several.false) in (
+      fit-inside _ _ _ _ _ _ (alone _ (agree_same _ _)) (lined _ (agree_same _ _)) (omega arith),
+      λ q B a s. plan-going _ _ _ _ _ _ _ c.if-left-eq0.false (omega arith) (alone q a) B (line-without B _ _ (lined q a) refl refl),
     )
 
 pub plan_walk-next_try-requires : goal.plan_walk-next_try-requires
@@ -310,37 +308,37 @@ plan_walk-next_try-requires t c = (c.loop-trials.invariant.1 _ _ (agree_same _ _
 pub plan_walk-returns-in-Limit : goal.plan_walk-returns-in-Limit
 plan_walk-returns-in-Limit t c =
     nothing-shown _ (λ q B a s. try-limit (c.loop-trials.invariant.1 q B a (same_left _ _ c.joined.ensures s))
-    (sym (ap try_outcome c.in-Limit.is) ∙ whole-line c.args.board.now c.args.people c.args.left _ _ c.loop-trials.invariant.0 c.loop-trials.invariant.1 _ c.without.ensures c.next_try.ensures s (joined-inside _ _ c.joined.ensures)))
+    (sym (ap try_outcome c.in-Limit.is) ∙ whole-line c.args.board.now.words c.args.board.now.people c.args.left _ _ c.loop-trials.invariant.0 c.loop-trials.invariant.1 _ c.without.ensures c.next_try.ensures s (joined-inside _ _ c.joined.ensures)))
 
 pub plan_walk-returns-in-Nobody : goal.plan_walk-returns-in-Nobody
 plan_walk-returns-in-Nobody t c =
     nothing-shown _ (λ q B a s. try-nobody (c.loop-trials.invariant.1 q B a (same_left _ _ c.joined-in-Nobody.ensures s)) _
-    (sym (ap try_outcome c.in-Nobody.is) ∙ whole-line c.args.board.now c.args.people c.args.left _ _ c.loop-trials.invariant.0 c.loop-trials.invariant.1 _ c.without.ensures c.next_try.ensures s (joined-inside _ _ c.joined-in-Nobody.ensures)))
+    (sym (ap try_outcome c.in-Nobody.is) ∙ whole-line c.args.board.now.words c.args.board.now.people c.args.left _ _ c.loop-trials.invariant.0 c.loop-trials.invariant.1 _ c.without.ensures c.next_try.ensures s (joined-inside _ _ c.joined-in-Nobody.ensures)))
 
 pub plan_walk-overflow_sub-limit : goal.plan_walk-overflow_sub-limit
 plan_walk-overflow_sub-limit t c =
-    (trying-own c.args.board.now c.args.people c.args.left _ _ c.loop-trials.invariant.0 c.loop-trials.invariant.1 c.without.ensures c.next_try.ensures c.in-Person.is (people_fit c.args.absent (omega arith))).enough
+    (trying-own c.args.board.now.words c.args.board.now.people c.args.left _ _ c.loop-trials.invariant.0 c.loop-trials.invariant.1 c.without.ensures c.next_try.ensures c.in-Move.is (people_fit c.args.absent (omega arith))).enough
 
 pub plan_walk-plan_walk-sub-requires : goal.plan_walk-plan_walk-sub-requires
-plan_walk-plan_walk-sub-requires t c = (omega (arith, c.decreases, c.if-left-eq0.false), c.requires)
+plan_walk-plan_walk-sub-requires t c = omega (arith, c.decreases, c.if-left-eq0.false)
 
 pub plan_walk-returns-in-Limit-end : goal.plan_walk-returns-in-Limit-end
 plan_walk-returns-in-Limit-end t c =
-    let j = judged c.args.board.now c.args.people (number c.args.absent) c.args.left c.args.limit c.args.p c.loop-trials.invariant.0 c.loop-trials.invariant.1 c.without.ensures c.next_try.ensures
-    c.in-Person.is c.placed.ensures c.next_step-step.ensures c.plan_walk-sub.ensures c.joined_steps-looked.ensures c.up_to.ensures c.joined-in-Person.ensures c.joined-met.ensures in
+    let j = judged c.args.board.now.words c.args.board.now.people (number c.args.absent) c.args.left c.args.limit c.args.p c.loop-trials.invariant.0 c.loop-trials.invariant.1 c.without.ensures c.next_try.ensures
+    c.in-Move.is c.placed.ensures c.next_step-step.ensures c.plan_walk-sub.ensures c.joined_steps-looked.ensures c.up_to.ensures c.joined-in-Move.ensures c.joined-met.ensures in
     nothing-shown _ (λ q B a s. sub-limit (j.judging q B a s) (sym (ap (plan_ended _ _) c.in-Limit-end.is) ∙ (j.said q B a s).1))
 
 pub plan_walk-overflow_add-result : goal.plan_walk-overflow_add-result
 plan_walk-overflow_add-result t c =
-    let j = judged c.args.board.now c.args.people (number c.args.absent) c.args.left c.args.limit c.args.p c.loop-trials.invariant.0 c.loop-trials.invariant.1 c.without.ensures c.next_try.ensures
-    c.in-Person.is c.placed.ensures c.next_step-step.ensures c.plan_walk-sub.ensures c.joined_steps-looked.ensures c.up_to.ensures c.joined-in-Person.ensures c.joined-met.ensures in
+    let j = judged c.args.board.now.words c.args.board.now.people (number c.args.absent) c.args.left c.args.limit c.args.p c.loop-trials.invariant.0 c.loop-trials.invariant.1 c.without.ensures c.next_try.ensures
+    c.in-Move.is c.placed.ensures c.next_step-step.ensures c.plan_walk-sub.ensures c.joined_steps-looked.ensures c.up_to.ensures c.joined-in-Move.ensures c.joined-met.ensures in
     let s : SameAway (number c.joined-met.result) (number c.args.absent) (number c.args.absent) = same_self _ _ (people_fit c.args.absent (omega arith)) in
     omega (arith, c.ranges.limit.fits, sub_within (j.judging _ _ (agree_same _ _) s) _ _ (sym (ap (plan_ended _ _) c.in-Yes.is) ∙ j.said-own _ s))
 
 pub plan_walk-returns-in-Yes : goal.plan_walk-returns-in-Yes
 plan_walk-returns-in-Yes t c =
-    let j = judged c.args.board.now c.args.people (number c.args.absent) c.args.left c.args.limit c.args.p c.loop-trials.invariant.0 c.loop-trials.invariant.1 c.without.ensures c.next_try.ensures
-    c.in-Person.is c.placed.ensures c.next_step-step.ensures c.plan_walk-sub.ensures c.joined_steps-looked.ensures c.up_to.ensures c.joined-in-Person.ensures c.joined-met.ensures in
+    let j = judged c.args.board.now.words c.args.board.now.people (number c.args.absent) c.args.left c.args.limit c.args.p c.loop-trials.invariant.0 c.loop-trials.invariant.1 c.without.ensures c.next_try.ensures
+    c.in-Move.is c.placed.ensures c.next_step-step.ensures c.plan_walk-sub.ensures c.joined_steps-looked.ensures c.up_to.ensures c.joined-in-Move.ensures c.joined-met.ensures in
     record {
       own = λ B s. sub-done (j.judging _ B (agree_same _ _) s) _ _ (sym (ap (plan_ended _ _) c.in-Yes.is) ∙ j.said-own B s) _ refl;
       others = λ q a B s.
@@ -350,40 +348,40 @@ plan_walk-returns-in-Yes t c =
 
 pub plan_walk-overflow_add-used : goal.plan_walk-overflow_add-used
 plan_walk-overflow_add-used t c =
-    let j = judged c.args.board.now c.args.people (number c.args.absent) c.args.left c.args.limit c.args.p c.loop-trials.invariant.0 c.loop-trials.invariant.1 c.without.ensures c.next_try.ensures
-    c.in-Person.is c.placed.ensures c.next_step-step.ensures c.plan_walk-sub.ensures c.joined_steps-looked.ensures c.up_to.ensures c.joined-in-Person.ensures c.joined-met.ensures in
+    let j = judged c.args.board.now.words c.args.board.now.people (number c.args.absent) c.args.left c.args.limit c.args.p c.loop-trials.invariant.0 c.loop-trials.invariant.1 c.without.ensures c.next_try.ensures
+    c.in-Move.is c.placed.ensures c.next_step-step.ensures c.plan_walk-sub.ensures c.joined_steps-looked.ensures c.up_to.ensures c.joined-in-Move.ensures c.joined-met.ensures in
     let s : SameAway (number c.joined-met.result) (number c.args.absent) (number c.args.absent) = same_self _ _ (people_fit c.args.absent (omega arith)) in
     omega (arith, c.ranges.limit.fits, sub_within (j.judging _ _ (agree_same _ _) s) _ _ (sym (ap (plan_ended _ _) c.in-No.is) ∙ j.said-own _ s))
 
-pub plan_walk-returns-in-Limit-rest_alike : goal.plan_walk-returns-in-Limit-rest_alike
-plan_walk-returns-in-Limit-rest_alike t c =
-    let j = judged c.args.board.now c.args.people (number c.args.absent) c.args.left c.args.limit c.args.p c.loop-trials.invariant.0 c.loop-trials.invariant.1 c.without.ensures c.next_try.ensures
-    c.in-Person.is c.placed.ensures c.next_step-step.ensures c.plan_walk-sub.ensures c.joined_steps-looked.ensures c.up_to.ensures c.joined-in-Person.ensures c.joined-met.ensures in
+pub plan_walk-returns-in-None : goal.plan_walk-returns-in-None
+plan_walk-returns-in-None t c =
+    let j = judged c.args.board.now.words c.args.board.now.people (number c.args.absent) c.args.left c.args.limit c.args.p c.loop-trials.invariant.0 c.loop-trials.invariant.1 c.without.ensures c.next_try.ensures
+    c.in-Move.is c.placed.ensures c.next_step-step.ensures c.plan_walk-sub.ensures c.joined_steps-looked.ensures c.up_to.ensures c.joined-in-Move.ensures c.joined-met.ensures in
     let o = sym c.holds-asked.ensures ∙ c.if-not-asked.true in
     nothing-shown _ (λ q B a s.
     let z = same_left _ _ c.joined-all_met.ensures s in
     alike-limit (all_alike j c.in-No.is o q B a z) (λ u. refl) (on j c.in-No.is c.behind-line.ensures q B a z)
-    (sym (ap spent_outcome c.in-Limit-rest_alike.is) ∙ whole-rest j c.in-No.is c.behind-line.ensures _ c.without-then-not-asked.ensures c.rest_alike.ensures s (joined-inside _ _ c.joined-all_met.ensures)))
+    (sym (ap spent_outcome c.in-None.is) ∙ whole-rest j c.in-No.is c.behind-line.ensures _ c.without-then-not-asked.ensures c.rest_alike.ensures s (joined-inside _ _ c.joined-all_met.ensures)))
 
-pub plan_walk-returns-in-All : goal.plan_walk-returns-in-All
-plan_walk-returns-in-All t c =
-    let j = judged c.args.board.now c.args.people (number c.args.absent) c.args.left c.args.limit c.args.p c.loop-trials.invariant.0 c.loop-trials.invariant.1 c.without.ensures c.next_try.ensures
-    c.in-Person.is c.placed.ensures c.next_step-step.ensures c.plan_walk-sub.ensures c.joined_steps-looked.ensures c.up_to.ensures c.joined-in-Person.ensures c.joined-met.ensures in
+pub plan_walk-returns-in-Some : goal.plan_walk-returns-in-Some
+plan_walk-returns-in-Some t c =
+    let j = judged c.args.board.now.words c.args.board.now.people (number c.args.absent) c.args.left c.args.limit c.args.p c.loop-trials.invariant.0 c.loop-trials.invariant.1 c.without.ensures c.next_try.ensures
+    c.in-Move.is c.placed.ensures c.next_step-step.ensures c.plan_walk-sub.ensures c.joined_steps-looked.ensures c.up_to.ensures c.joined-in-Move.ensures c.joined-met.ensures in
     let o = sym c.holds-asked.ensures ∙ c.if-not-asked.true in
     nothing-shown _ (λ q B a s.
     let z = same_left _ _ c.joined-all_met.ensures s in
     alike_all (all_alike j c.in-No.is o q B a z) (λ u. refl) (on j c.in-No.is c.behind-line.ensures q B a z) _
-    (sym (ap spent_outcome c.in-All.is) ∙ whole-rest j c.in-No.is c.behind-line.ensures _ c.without-then-not-asked.ensures c.rest_alike.ensures s (joined-inside _ _ c.joined-all_met.ensures)))
+    (sym (ap spent_outcome c.in-Some.is) ∙ whole-rest j c.in-No.is c.behind-line.ensures _ c.without-then-not-asked.ensures c.rest_alike.ensures s (joined-inside _ _ c.joined-all_met.ensures)))
 
 pub plan_walk-loop-trials-smaller : goal.plan_walk-loop-trials-smaller
 plan_walk-loop-trials-smaller t c =
-    let j = judged c.args.board.now c.args.people (number c.args.absent) c.args.left c.args.limit c.args.p c.loop-trials.invariant.0 c.loop-trials.invariant.1 c.without.ensures c.next_try.ensures
-    c.in-Person.is c.placed.ensures c.next_step-step.ensures c.plan_walk-sub.ensures c.joined_steps-looked.ensures c.up_to.ensures c.joined-in-Person.ensures c.joined-met.ensures in
+    let j = judged c.args.board.now.words c.args.board.now.people (number c.args.absent) c.args.left c.args.limit c.args.p c.loop-trials.invariant.0 c.loop-trials.invariant.1 c.without.ensures c.next_try.ensures
+    c.in-Move.is c.placed.ensures c.next_step-step.ensures c.plan_walk-sub.ensures c.joined_steps-looked.ensures c.up_to.ensures c.joined-in-Move.ensures c.joined-met.ensures in
     rw (off-fit j c.in-No.is c.behind-line.ensures (number c.args.absent))
-    (trying-own c.args.board.now c.args.people c.args.left _ _ c.loop-trials.invariant.0 c.loop-trials.invariant.1 c.without.ensures c.next_try.ensures c.in-Person.is (people_fit c.args.absent (omega arith))).fewer
+    (trying-own c.args.board.now.words c.args.board.now.people c.args.left _ _ c.loop-trials.invariant.0 c.loop-trials.invariant.1 c.without.ensures c.next_try.ensures c.in-Move.is (people_fit c.args.absent (omega arith))).fewer
 
 pub plan_walk-loop-trials-preserved : goal.plan_walk-loop-trials-preserved
 plan_walk-loop-trials-preserved t c =
-    let j = judged c.args.board.now c.args.people (number c.args.absent) c.args.left c.args.limit c.args.p c.loop-trials.invariant.0 c.loop-trials.invariant.1 c.without.ensures c.next_try.ensures
-    c.in-Person.is c.placed.ensures c.next_step-step.ensures c.plan_walk-sub.ensures c.joined_steps-looked.ensures c.up_to.ensures c.joined-in-Person.ensures c.joined-met.ensures in
+    let j = judged c.args.board.now.words c.args.board.now.people (number c.args.absent) c.args.left c.args.limit c.args.p c.loop-trials.invariant.0 c.loop-trials.invariant.1 c.without.ensures c.next_try.ensures
+    c.in-Move.is c.placed.ensures c.next_step-step.ensures c.plan_walk-sub.ensures c.joined_steps-looked.ensures c.up_to.ensures c.joined-in-Move.ensures c.joined-met.ensures in
     (inside_on j c.in-No.is c.behind-line.ensures, on j c.in-No.is c.behind-line.ensures)

@@ -22,7 +22,7 @@ decreases-plan_walk l = 2 * l.left + 1
 abbrev pub invariant-plan_choice-loop-trials : goal.invariant-plan_choice-loop-trials
 invariant-plan_choice-loop-trials l =
     (q : Filled) → Agree l.looked l.p q
-    → many.Going (choosing.plan_hunt l.board l.people q l.lines (number l.absent) (l.left - 1)) l.lines (plan (board_arena l.board l.people) (number l.absent) l.left q) l.limit l.at l.used tt
+    → many.Going (choosing.plan_hunt l.board.words l.board.people q l.lines (number l.absent) (l.left - 1)) l.lines (plan (board_arena l.board.words l.board.people) (number l.absent) l.left q) l.limit l.at l.used tt
 
 abbrev pub decreases-plan_choice-loop-trials : goal.decreases-plan_choice-loop-trials
 decreases-plan_choice-loop-trials l = many.togo l.at
@@ -31,7 +31,7 @@ abbrev pub invariant-plan_walk-loop-trials : goal.invariant-plan_walk-loop-trial
 invariant-plan_walk-loop-trials l =
     Inside (number l.line.fit) (number l.line.tried)
     × ((q : Filled) (B : ℕ) → Agree l.looked l.p q → SameAway (number l.met) (number l.absent) B
-    → Going (plan_hunt l.board l.people B (l.left - 1) q) (plan (board_arena l.board l.people) B l.left q) l.limit (difference width (number l.line.tried) B) (difference width (number l.line.fit) B) l.used tt)
+    → Going (plan_hunt l.board.words l.board.people B (l.left - 1) q) (plan (board_arena l.board.words l.board.people) B l.left q) l.limit (difference width (number l.line.tried) B) (difference width (number l.line.fit) B) l.used tt)
 
 abbrev pub decreases-plan_walk-loop-trials : goal.decreases-plan_walk-loop-trials
 decreases-plan_walk-loop-trials l = size width (difference width (number l.line.fit) (number l.absent))

@@ -26,9 +26,6 @@ told-by : {b : List ℕ} {n A k l : ℕ} {p : Filled} {r : Planned} {end : PlanE
     → (e : Filled) × (plan_ended l e end ≡ cut l (plan (board_arena b n) A k q))
 told-by h is w q a = let z = w.others q a _ (same_self _ _ h) in (z.0, sym (ap (plan_ended _ _) is) ∙ z.1)
 
-pub plan_walk-walked-requires : goal.plan_walk-walked-requires
-plan_walk-walked-requires c = c.requires
-
 pub returns-in-Limit : goal.returns-in-Limit
 returns-in-Limit c = λ q a. lacks-limit _ _ _ (told-by (people_fit c.args.away (omega arith)) c.in-Limit.is c.plan_walk-walked.ensures q a).1
 

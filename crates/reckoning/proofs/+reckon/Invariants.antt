@@ -8,7 +8,7 @@ abbrev pub decreases-reckon : goal.decreases-reckon
 decreases-reckon l = l.left
 
 abbrev pub invariant-loop-v : goal.invariant-loop-v
-invariant-loop-v l = Reckoning l.board l.people l.left l.p l.initial.away l.initial.rest l.missed l.rest l.away l.sum l.scale
+invariant-loop-v l = Reckoning l.board.words l.board.people l.left l.p l.initial.away l.initial.rest l.missed l.rest l.away l.sum l.scale
 
 abbrev pub decreases-loop-v : goal.decreases-loop-v
 decreases-loop-v l = size width (number l.rest)

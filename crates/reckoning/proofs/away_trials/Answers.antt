@@ -7,16 +7,16 @@ use Rattle.reckoning.proofs.away_trials.Goals as goal
 pub overflow_sub-t : goal.overflow_sub-t
 overflow_sub-t c =
     let pre = c.requires in
-    omega (arith, size-wide _ (number c.args.away) pre.0 pre.1, c.size.ensures, pre.2)
+    omega (arith, size-wide _ (number c.args.away) (omega arith) pre.0, c.size.ensures, pre.1)
 
 pub reckon-requires : goal.reckon-requires
 reckon-requires c =
     let sets = c.once in
     let away = c.args.away in
-    (c.requires.0, once-fits _ away _ sets.result sets.ensures c.requires.1, once-small away _ _ sets.result sets.ensures (omega arith))
+    (once-fits _ away _ sets.result sets.ensures c.requires.0, once-small away _ _ sets.result sets.ensures (omega arith))
 
 pub returns : goal.returns
 returns c =
     let sets = c.once in
-    away-tells _ _ _ _ c.requires.0 _ _ c.args.away sets.result c.reckon.result c.requires.1 c.requires.2 c.size.ensures sets.ensures
+    away-tells _ _ _ _ (omega arith) _ _ c.args.away sets.result c.reckon.result c.requires.0 c.requires.1 c.size.ensures sets.ensures
     c.reckon.ensures

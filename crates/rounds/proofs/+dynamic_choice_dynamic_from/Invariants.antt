@@ -26,7 +26,7 @@ decreases-dynamic_from l = 2 * l.left + 1
 abbrev pub invariant-dynamic_choice-loop-trials : goal.invariant-dynamic_choice-loop-trials
 invariant-dynamic_choice-loop-trials l =
     ((q : Filled) → Agree l.looked l.p q
-    → many.Going (choosing.dynamic_hunt l.board l.people q l.lines l.t (l.left - 1)) l.lines (dynamic (board_arena l.board l.people) l.t l.left q) l.limit l.at l.used (l.found, number l.shown))
+    → many.Going (choosing.dynamic_hunt l.board.words l.board.people q l.lines l.t (l.left - 1)) l.lines (dynamic (board_arena l.board.words l.board.people) l.t l.left q) l.limit l.at l.used (l.found, number l.shown))
     × many-shown.Shown l.at.person (number l.shown) l.found l.t
 
 abbrev pub decreases-dynamic_choice-loop-trials : goal.decreases-dynamic_choice-loop-trials
@@ -35,8 +35,8 @@ decreases-dynamic_choice-loop-trials l = many.togo l.at
 abbrev pub invariant-dynamic_from-loop-trials : goal.invariant-dynamic_from-loop-trials
 invariant-dynamic_from-loop-trials l =
     ((q : Filled) → Agree l.looked l.p q
-    → InLine l.board l.people 0 q (number l.whole.tried) (number l.whole.fit)
-    × Going (dynamic_hunt l.board l.people l.t (l.left - 1) q) (dynamic (board_arena l.board l.people) l.t l.left q) l.limit (number l.line.tried) (number l.line.fit) l.used (l.found, number l.shown))
+    → InLine l.board.words l.board.people 0 q (number l.whole.tried) (number l.whole.fit)
+    × Going (dynamic_hunt l.board.words l.board.people l.t (l.left - 1) q) (dynamic (board_arena l.board.words l.board.people) l.t l.left q) l.limit (number l.line.tried) (number l.line.fit) l.used (l.found, number l.shown))
     × Shown (number l.line.tried) (number l.shown) l.found l.t
 
 abbrev pub decreases-dynamic_from-loop-trials : goal.decreases-dynamic_from-loop-trials

@@ -11,7 +11,7 @@ use Rattle.statics.proofs.static_from.Given as goal
 abbrev pub invariant-loop-trials : goal.invariant-loop-trials
 invariant-loop-trials l =
     (q : Filled) → Agree l.looked l.p q
-    → Sweep (λ A. if_none A (plan (board_arena l.board l.people) A l.left q)) (static (board_arena l.board l.people) l.t l.left q) l.people l.t 0 l.limit (number l.set) l.used
+    → Sweep (λ A. if_none A (plan (board_arena l.board.words l.board.people) A l.left q)) (static (board_arena l.board.words l.board.people) l.t l.left q) l.board.people l.t 0 l.limit (number l.set) l.used
 
 abbrev pub decreases-loop-trials : goal.decreases-loop-trials
-decreases-loop-trials l = 2 ^ l.people - number l.set
+decreases-loop-trials l = 2 ^ l.board.people - number l.set

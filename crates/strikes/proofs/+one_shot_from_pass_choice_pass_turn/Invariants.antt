@@ -23,7 +23,7 @@ decreases-pass_turn l = 3 * l.left + 1
 abbrev pub invariant-pass_choice-loop-trials : goal.invariant-pass_choice-loop-trials
 invariant-pass_choice-loop-trials l =
     (q : Filled) → Agree l.looked l.p q
-    → many.Going (choosing.pass_hunt l.board l.people q l.lines l.t (l.left - 1)) l.lines (pass_on l.board l.people l.t (l.left - 1) q) l.limit l.at l.used tt
+    → many.Going (choosing.pass_hunt l.board.words l.board.people q l.lines l.t (l.left - 1)) l.lines (pass_on l.board.words l.board.people l.t (l.left - 1) q) l.limit l.at l.used tt
 
 abbrev pub decreases-pass_choice-loop-trials : goal.decreases-pass_choice-loop-trials
 decreases-pass_choice-loop-trials l = many.togo l.at
@@ -31,7 +31,7 @@ decreases-pass_choice-loop-trials l = many.togo l.at
 abbrev pub invariant-pass_turn-loop-trials : goal.invariant-pass_turn-loop-trials
 invariant-pass_turn-loop-trials l =
     (q : Filled) → Agree l.looked l.p q
-    → Going (pass_hunt l.board l.people l.t (l.left - 1) q) (pass_on l.board l.people l.t (l.left - 1) q) l.limit (number l.line.tried) (number l.line.fit) l.used tt
+    → Going (pass_hunt l.board.words l.board.people l.t (l.left - 1) q) (pass_on l.board.words l.board.people l.t (l.left - 1) q) l.limit (number l.line.tried) (number l.line.fit) l.used tt
 
 abbrev pub decreases-pass_turn-loop-trials : goal.decreases-pass_turn-loop-trials
 decreases-pass_turn-loop-trials l = size width (number l.line.fit)

@@ -6,27 +6,24 @@ use Rattle.tries.specs.Outcomes.{verdict_outcome}
 use Rattle.games.proofs.Cuts.{after-limit, after-within, after-ended}
 use Rattle.strikes.proofs.then_strikes.Goals as goal
 
-pub static_from-walked-requires : goal.static_from-walked-requires
-static_from-walked-requires c = c.requires.1
-
-pub overflow_add-result : goal.overflow_add-result
-overflow_add-result c =
+pub overflow_add-verdict : goal.overflow_add-verdict
+overflow_add-verdict c =
     let e = sym (ap (verdict_outcome _) c.in-Yes.is) ∙ c.static_from-walked.ensures _ (agree_same _ _) in
-    omega (arith, c.ranges.limit.fits, after-within _ _ _ c.requires.0 _ _ e)
+    omega (arith, c.ranges.limit.fits, after-within _ _ _ c.requires _ _ e)
 
-pub overflow_add-result-in-No : goal.overflow_add-result-in-No
-overflow_add-result-in-No c =
+pub overflow_add-verdict-in-No : goal.overflow_add-verdict-in-No
+overflow_add-verdict-in-No c =
     let e = sym (ap (verdict_outcome _) c.in-No.is) ∙ c.static_from-walked.ensures _ (agree_same _ _) in
-    omega (arith, c.ranges.limit.fits, after-within _ _ _ c.requires.0 _ _ e)
+    omega (arith, c.ranges.limit.fits, after-within _ _ _ c.requires _ _ e)
 
 pub returns-in-Limit : goal.returns-in-Limit
 returns-in-Limit c = λ q a.
-    after-limit _ _ _ c.requires.0 (sym (ap (verdict_outcome _) c.in-Limit.is) ∙ c.static_from-walked.ensures q a)
+    after-limit _ _ _ c.requires (sym (ap (verdict_outcome _) c.in-Limit.is) ∙ c.static_from-walked.ensures q a)
 
 pub returns-in-Yes : goal.returns-in-Yes
 returns-in-Yes c = λ q a.
-    after-ended _ _ _ c.requires.0 _ _ (sym (ap (verdict_outcome _) c.in-Yes.is) ∙ c.static_from-walked.ensures q a)
+    after-ended _ _ _ c.requires _ _ (sym (ap (verdict_outcome _) c.in-Yes.is) ∙ c.static_from-walked.ensures q a)
 
 pub returns-in-No : goal.returns-in-No
 returns-in-No c = λ q a.
-    after-ended _ _ _ c.requires.0 _ _ (sym (ap (verdict_outcome _) c.in-No.is) ∙ c.static_from-walked.ensures q a)
+    after-ended _ _ _ c.requires _ _ (sym (ap (verdict_outcome _) c.in-No.is) ∙ c.static_from-walked.ensures q a)

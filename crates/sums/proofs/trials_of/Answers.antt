@@ -13,5 +13,5 @@ returns-then-has c =
     trials-some a.sets a.people a.missed a.u _ c.staying.result
     (sym c.has.ensures ∙ c.if-has.true) c.staying.ensures c.how_many.ensures
 
-pub returns : goal.returns
-returns c = let a = c.args in trials-none a.sets a.people a.missed a.u (sym c.has.ensures ∙ c.if-has.false)
+pub returns-else-has : goal.returns-else-has
+returns-else-has c = let a = c.args in trials-none a.sets a.people a.missed a.u (sym c.has.ensures ∙ c.if-has.false)

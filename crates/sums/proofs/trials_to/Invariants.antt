@@ -1,9 +1,5 @@
-use Prim.Native.Nat.{◌-◌, ◌≤◌}
 use Rattle.sums.proofs.Counts.{Trials}
 use Rattle.sums.proofs.trials_to.Given as goal
 
 abbrev pub invariant-loop-u : goal.invariant-loop-u
-invariant-loop-u l = Trials l.sets l.people l.missed l.u l.sum × (l.u ≤ l.v)
-
-abbrev pub decreases-loop-u : goal.decreases-loop-u
-decreases-loop-u l = l.v - l.u
+invariant-loop-u l = Trials l.sets l.people l.missed l.u l.sum

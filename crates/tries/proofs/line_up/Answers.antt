@@ -8,7 +8,7 @@ use Rattle.tries.proofs.line_up.Goals as goal
 
 pub returns-then-at-ge-STEPS : goal.returns-then-at-ge-STEPS
 returns-then-at-ge-STEPS c = λ q a.
-    line-none _ _ _ q _ (c.requires ∙ sym (step-agree _ a)) _ _ c.if-at-ge-STEPS.true (nobody-shown c.none-nobody.ensures) (nobody-shown c.none-nobody.ensures)
+    line-none _ _ _ q _ (c.requires ∙ sym (step-agree _ a)) _ _ c.if-at-ge-STEPS.true (nobody-shown c.none.ensures) (nobody-shown c.none-then-at-ge-STEPS.ensures)
 
 pub returns : goal.returns
 returns c = λ q a.

@@ -1,5 +1,4 @@
 -- A line for each step that is ready, one after the other, the same from every position that agrees at the steps looked at.
-use Prim.Native.Nat.{◌-◌}
 use Rattle.sets.specs.Sets.{has}
 use Rattle.cases.specs.declared.Filled.{Filled}
 use Rattle.boards.specs.Looked.{Agree}
@@ -9,6 +8,3 @@ use Rattle.tries.proofs.choice.lines_up.Given as goal
 
 abbrev pub invariant-loop-s : goal.invariant-loop-s
 invariant-loop-s l = (q : Filled) → Agree l.looked l.p q → Filling (line_on l.board l.people q) (has l.ready) l.s l.lines
-
-abbrev pub decreases-loop-s : goal.decreases-loop-s
-decreases-loop-s l = 8 - l.s

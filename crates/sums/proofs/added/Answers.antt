@@ -1,4 +1,0 @@
-use Rattle.sums.proofs.added.Goals as goal
-
-pub returns : goal.returns
-returns c = cc
