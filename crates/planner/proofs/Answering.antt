@@ -5,6 +5,8 @@ use mathlib.Core.Bool.{Bool, true, false}
 use mathlib.Core.Option.{Option, none, some}
 use mathlib.Core.List.{List, [], ◌∷◌, map}
 use Prim.Native.Nat.{ℕ, ◌-◌, ◌≤◌}
+use Rattle.std.specs.Prelude.{Result, Ok, Err, IsErrAnd}
+use Rattle.std.proofs.lemmas.Result.{err_from_is_err_and}
 use native.Mathlib.Omega.{arith}
 use lib.Dec.{leb}
 use lib.ListN.{length, get_or}
@@ -30,11 +32,9 @@ use Rattle.meaning.specs.Listed.{filled_by}
 use Rattle.meaning.proofs.Listed.{filled-formed, filled_at}
 use Rattle.meaning.proofs.OnBoard.{plan-on-board, static-on-board, decremental-on-board, one-shot-on-board, dynamic-on-board, advice-on-board, away-on-board}
 use Rattle.refusals.specs.declared.Refusal.{Refusal}
-use Rattle.refusals.specs.declared.Judged.{Judged}
-use Rattle.refusals.specs.declared.Judged.TheVariants.{Good, Refused}
-use Rattle.refusals.specs.Refusals.{judged_by, or_else}
+use Rattle.refusals.specs.Refusals.{Judged, Good, Refused, judged_by, or_else}
 use Rattle.refusals.specs.CaseChecks.{judged_case}
-use Rattle.refusals.proofs.Order.{good-checks, judged-append}
+use Rattle.refusals.proofs.Order.{good-refused, good-checks, judged-append}
 use Rattle.refusals.proofs.Cases.{good-limited}
 use Rattle.asking.specs.Asking.{number_check, position_check, absence_check, judged_question}
 use Rattle.asking.specs.OnBoard.{position_check_on}
@@ -43,15 +43,12 @@ use Rattle.asking.proofs.Calls.{question-order, away-order, advice-order}
 use Rattle.asking.proofs.Laid.{position-laid}
 use Rattle.planner.specs.declared.Question.{Question}
 use Rattle.planner.specs.declared.Question.TheVariants.{Static, Decremental, OneShot, Dynamic}
-use Rattle.planner.specs.declared.PlanSays.TheVariants as plan-says
 use Rattle.planner.specs.declared.PlanAnswer.{PlanAnswer}
+use Rattle.planner.specs.declared.PlanAnswer.TheVariants as plan-says
 use Rattle.planner.specs.declared.VerdictAnswer.{VerdictAnswer}
-use Rattle.planner.specs.declared.VerdictAnswer.TheVariants as verdict
 use Rattle.planner.specs.declared.AdviceAnswer.{AdviceAnswer}
-use Rattle.planner.specs.declared.AdviceAnswer.TheVariants as advice-says
 use Rattle.planner.specs.declared.AwayAnswer.{AwayAnswer}
-use Rattle.planner.specs.declared.AwayAnswer.TheVariants as away-says
-use Rattle.planner.specs.Answers.{person_of, position_of, no_plan, plan_answer, plan_given, verdict_answer, verdict_given, advice_answer, advice_given, away_answer, away_given}
+use Rattle.planner.specs.Answers.{person_of, position_of, plan_answer, verdict_answer, advice_answer, away_answer, given}
 use Rattle.planner.specs.Calls.{plan_call, walk_of, question_call, advice_call, away_call}
 use Rattle.planner.specs.OnBoard.{plan_on, walk_on, plan_answer_on, person_told, advice_ready, away_ready}
 
@@ -68,15 +65,20 @@ at-start e = ap persons e ∙ persons-start
 abbrev pub board : Case → List ℕ
 board c = laid_out c order.Listed
 
+-- ---- a `?` that meets a refusal hands it on
+
+pub turned : {A : Type 0} (r : Result A Refusal) {s : Result A Refusal} {x : Refusal} → IsErrAnd r (λ y. y ≡ x) → Err x ≡ s → r ≡ s
+turned r h e = let p = err_from_is_err_and r h in p.1 ∙ ap Err p.2 ∙ e
+
 -- ---- plan
 
-pub plan-refused : (c : Case) (l : ℕ) (r : Refusal) → judged_case c ≡ Refused r → no_plan (plan-says.Refused r) ≡ plan_call c l
+pub plan-refused : (c : Case) (l : ℕ) (r : Refusal) → judged_case c ≡ Refused r → Err r ≡ plan_call c l
 unfolding plan_call
-plan-refused c l r e = ap (λ j. plan_given j (cut l (plan_of c))) (sym e)
+plan-refused c l r e = ap (λ j. given j (plan_answer (cut l (plan_of c)))) (sym e)
 
-pub plan-answered : (c : Case) (l : ℕ) (x : PlanAnswer) → judged_case c ≡ Good → x ≡ plan_answer (cut l (plan_of c)) → x ≡ plan_call c l
+pub plan-answered : (c : Case) (l : ℕ) (x : PlanAnswer) → judged_case c ≡ Good → x ≡ plan_answer (cut l (plan_of c)) → Ok x ≡ plan_call c l
 unfolding plan_call
-plan-answered c l x e k = k ∙ ap (λ j. plan_given j (cut l (plan_of c))) (sym e)
+plan-answered c l x e k = ap₂ given (sym e) k
 
 -- a plan that a board tells, as its persons
 module _ (c : Case) (r : Ready c) where
@@ -101,7 +103,7 @@ module _ (c : Case) (r : Ready c) where
       go true none e = refl
       go true (some q) e =
           let k : length q ≡ steps c = ((plan-first-got c q).0 e).0.whole in
-          ap₂ (λ w m. record { says = plan-says.Yes n; plan = record { who = w; len = m } }) (shown q (omega (arith, r.counts.steps))) (sym k)
+          ap₂ (λ w m. plan-says.Yes (record { who = w; len = m }) n) (shown q (omega (arith, r.counts.steps))) (sym k)
 
 pub plan-walked : (c : Case) (l : ℕ) (b : List ℕ) (n k : ℕ) (x : PlanAnswer) → Ready c → b ≡ board c → n ≡ people c → k ≡ steps c
     → x ≡ plan_answer_on k (cut l (plan_on b n k)) → x ≡ plan_answer (cut l (plan_of c))
@@ -116,13 +118,13 @@ case-judged c t r e = question-order c t ∙ ap (λ i. or_else i (judged_by (num
 pub question-judged : (c : Case) (t : ℕ) (k : Judged) → judged_case c ≡ Good → k ≡ judged_by (number_check t ∷ []) → judged_question c t ≡ k
 question-judged c t k e f = question-order c t ∙ ap₂ or_else e (sym f)
 
-pub question-refused : (q : Question) (c : Case) (t l : ℕ) (r : Refusal) → judged_question c t ≡ Refused r → verdict.Refused r ≡ question_call q c t l
+pub question-refused : (q : Question) (c : Case) (t l : ℕ) (r : Refusal) → judged_question c t ≡ Refused r → Err r ≡ question_call q c t l
 unfolding question_call
-question-refused q c t l r e = ap (λ j. verdict_given j (cut l (walk_of q c t))) (sym e)
+question-refused q c t l r e = ap (λ j. given j (verdict_answer (cut l (walk_of q c t)))) (sym e)
 
-pub question-answered : (q : Question) (c : Case) (t l : ℕ) (x : VerdictAnswer) → judged_question c t ≡ Good → x ≡ verdict_answer (cut l (walk_of q c t)) → x ≡ question_call q c t l
+pub question-answered : (q : Question) (c : Case) (t l : ℕ) (x : VerdictAnswer) → judged_question c t ≡ Good → x ≡ verdict_answer (cut l (walk_of q c t)) → Ok x ≡ question_call q c t l
 unfolding question_call
-question-answered q c t l x e k = k ∙ ap (λ j. verdict_given j (cut l (walk_of q c t))) (sym e)
+question-answered q c t l x e k = ap₂ given (sym e) k
 
 on-board : (q : Question) (c : Case) (t : ℕ) → Ready c → walk_on q (board c) (people c) t (steps c) ≡ walk_of q c t
 on-board Static c t r = static-on-board c r t
@@ -136,28 +138,22 @@ question-walked q c t l b n k x r f g h y = rw (f, g, h) at y ∙ ap (λ w. verd
 
 -- ---- advice and away where the case or t is refused
 
-pub advice-turned : (c : Case) (p : List ℕ) (t A l : ℕ) (r : Refusal) → judged_question c t ≡ Refused r → advice-says.Refused r ≡ advice_call c p t A l
+pub advice-turned : (c : Case) (p : List ℕ) (t A l : ℕ) (r : Refusal) → judged_question c t ≡ Refused r → Err r ≡ advice_call c p t A l
 unfolding advice_call
 advice-turned c p t A l r e =
-    sym (ap (λ j. advice_given j (cut l (advice_at c t A p))) (advice-order c p t A
+    sym (ap (λ j. given j (advice_answer (cut l (advice_at c t A p)))) (advice-order c p t A
     ∙ ap (λ i. or_else i (judged_by (absence_check (people c) t A ∷ []))) (away-order c p t ∙ ap (λ i. or_else i (judged_by (position_check c p ∷ []))) e)))
 
-pub away-turned : (c : Case) (p : List ℕ) (t l : ℕ) (r : Refusal) → judged_question c t ≡ Refused r → away-says.Refused r ≡ away_call c p t l
+pub away-turned : (c : Case) (p : List ℕ) (t l : ℕ) (r : Refusal) → judged_question c t ≡ Refused r → Err r ≡ away_call c p t l
 unfolding away_call
 away-turned c p t l r e =
-    sym (ap (λ j. away_given j (cut l (away_at c t p))) (away-order c p t ∙ ap (λ i. or_else i (judged_by (position_check c p ∷ []))) e))
+    sym (ap (λ j. given j (away_answer (cut l (away_at c t p)))) (away-order c p t ∙ ap (λ i. or_else i (judged_by (position_check c p ∷ []))) e))
 
 -- ---- the position and the absentees, judged on the board
 
-both-good : (j k : Judged) → or_else j k ≡ Good → (j ≡ Good) × (k ≡ Good)
-both-good Good k e = (refl, e)
-both-good (Refused r) k e = absurd (refused-good r e)
-  where
-    refused-good : (r : Refusal) → Refused r ≡ Good → ⊥
-    refused-good r q = let z : ◌≡◌ {A = ℕ} 1 0 = cc in omega arith
-
 pub first_good : (i k j : Judged) → j ≡ or_else i k → j ≡ Good → i ≡ Good
-first_good i k j e g = (both-good i k (sym e ∙ g)).0
+first_good (Ok u) k j e g = refl
+first_good (Err r) k j e g = absurd (good-refused g e)
 
 pub steps-left : (c : Case) (p : Position) → steps c - p.len ≡ steps c - length (persons p)
 steps-left c p = ap (λ (n : ℕ). steps c - n) (sym (persons-length p))
@@ -168,8 +164,8 @@ module _ (c : Case) (p : List ℕ) (r : Ready c) where
   position-as b j f e = rw f at e ∙ ap (λ x. judged_by (x ∷ [])) (position-laid c p r)
 
   -- a position that is not refused can be played on
-  pub position-good : (b : List ℕ) (j : Judged) → b ≡ board c → j ≡ judged_by (position_check_on b (people c) (steps c) p ∷ []) → j ≡ Good → GoodPosition c p
-  position-good b j f e g = position-accepted c p (good-checks (position_check c p ∷ []) (sym (position-as b j f e) ∙ g) (position_check c p) (inl refl))
+  pub position-good : (b : List ℕ) → b ≡ board c → Good ≡ judged_by (position_check_on b (people c) (steps c) p ∷ []) → GoodPosition c p
+  position-good b f e = position-accepted c p (good-checks (position_check c p ∷ []) (sym (position-as b Good f e)) (position_check c p) (inl refl))
 
   pub away-judged : (b : List ℕ) (j : Judged) → b ≡ board c → j ≡ judged_by (position_check_on b (people c) (steps c) p ∷ []) → judged_by (position_check c p ∷ []) ≡ j
   away-judged b j f e = sym (position-as b j f e)
@@ -179,25 +175,26 @@ module _ (c : Case) (p : List ℕ) (t : ℕ) where
   pub advice-ready : (A l : ℕ) → judged_question c t ≡ Good → advice_ready c p t A l ≡ advice_call c p t A l
   unfolding advice_ready advice_call
   advice-ready A l e =
-      ap (λ j. advice_given j (cut l (advice_at c t A p)))
+      ap (λ j. given j (advice_answer (cut l (advice_at c t A p))))
       (judged-append (position_check c p ∷ []) (absence_check (people c) t A ∷ [])
       ∙ sym (advice-order c p t A ∙ ap (λ i. or_else i (judged_by (absence_check (people c) t A ∷ []))) (away-order c p t ∙ ap (λ i. or_else i (judged_by (position_check c p ∷ []))) e)))
 
   pub away-ready : (l : ℕ) → judged_question c t ≡ Good → away_ready c p t l ≡ away_call c p t l
   unfolding away_ready away_call
-  away-ready l e = ap (λ j. away_given j (cut l (away_at c t p))) (sym (away-order c p t ∙ ap (λ i. or_else i (judged_by (position_check c p ∷ []))) e))
+  away-ready l e = ap (λ j. given j (away_answer (cut l (away_at c t p)))) (sym (away-order c p t ∙ ap (λ i. or_else i (judged_by (position_check c p ∷ []))) e))
 
   module _ (r : Ready c) where
     -- ---- advice
 
-    pub advice-judged : (A : ℕ) (b : List ℕ) (i k j : Judged) → b ≡ board c → i ≡ judged_by (position_check_on b (people c) (steps c) p ∷ [])
-        → k ≡ judged_by (absence_check (people c) t A ∷ []) → j ≡ or_else i k → judged_by (position_check c p ∷ (absence_check (people c) t A ∷ [])) ≡ j
-    advice-judged A b i k j f e g h =
-        judged-append (position_check c p ∷ []) (absence_check (people c) t A ∷ []) ∙ ap₂ or_else (sym (position-as c p r b i f e)) (sym g) ∙ sym h
+    -- 13, then 14
+    pub advice-judged : (A : ℕ) (b : List ℕ) (i k : Judged) → b ≡ board c → i ≡ judged_by (position_check_on b (people c) (steps c) p ∷ [])
+        → k ≡ judged_by (absence_check (people c) t A ∷ []) → judged_by (position_check c p ∷ (absence_check (people c) t A ∷ [])) ≡ or_else i k
+    advice-judged A b i k f e g =
+        judged-append (position_check c p ∷ []) (absence_check (people c) t A ∷ []) ∙ ap₂ or_else (sym (position-as c p r b i f e)) (sym g)
 
-    pub advice-refused : (A l : ℕ) (x : Refusal) → judged_by (position_check c p ∷ (absence_check (people c) t A ∷ [])) ≡ Refused x → advice-says.Refused x ≡ advice_ready c p t A l
+    pub advice-refused : (A l : ℕ) (x : Refusal) → judged_by (position_check c p ∷ (absence_check (people c) t A ∷ [])) ≡ Refused x → Err x ≡ advice_ready c p t A l
     unfolding advice_ready
-    advice-refused A l x e = ap (λ j. advice_given j (cut l (advice_at c t A p))) (sym e)
+    advice-refused A l x e = ap (λ j. given j (advice_answer (cut l (advice_at c t A p)))) (sym e)
 
     -- the person of what a walk got, under a limit
     person-cut : (l : ℕ) (w : Search (ℕ × Done)) → person_told (cut l w) ≡ cut l (told (λ (a : ℕ × Done). a.0) w)
@@ -212,24 +209,22 @@ module _ (c : Case) (p : List ℕ) (t : ℕ) where
 
     pub advice-answered : (A l : ℕ) (b : List ℕ) (n k : ℕ) (q : Filled) (x : AdviceAnswer) (y : Answer (Option (ℕ × Done)))
         → judged_by (position_check c p ∷ (absence_check (people c) t A ∷ [])) ≡ Good → GoodPosition c p → b ≡ board c → n ≡ people c → k ≡ steps c - length p → q ≡ filled_by p
-        → x ≡ advice_answer (person_told y) → y ≡ cut l (advice (board_arena b n) t k A q) → x ≡ advice_ready c p t A l
+        → x ≡ advice_answer (person_told y) → y ≡ cut l (advice (board_arena b n) t k A q) → Ok x ≡ advice_ready c p t A l
     unfolding advice_ready
     advice-answered A l b n k q x y e v f g h w i j =
-        i
+        ap₂ given (sym e)
+        (i
         ∙ ap advice_answer (ap person_told (rw (f, g, h, w) at j) ∙ person-cut l (advice (board_arena (board c) (people c)) t (steps c - length p) A (filled_by p))
-        ∙ ap (cut l) (advice-on-board c r p v.valid t A))
-        ∙ ap (λ z. advice_given z (cut l (advice_at c t A p))) (sym e)
+        ∙ ap (cut l) (advice-on-board c r p v.valid t A)))
 
     -- ---- away
 
-    pub away-refused : (l : ℕ) (x : Refusal) → judged_by (position_check c p ∷ []) ≡ Refused x → away-says.Refused x ≡ away_ready c p t l
+    pub away-refused : (l : ℕ) (x : Refusal) → judged_by (position_check c p ∷ []) ≡ Refused x → Err x ≡ away_ready c p t l
     unfolding away_ready
-    away-refused l x e = ap (λ j. away_given j (cut l (away_at c t p))) (sym e)
+    away-refused l x e = ap (λ j. given j (away_answer (cut l (away_at c t p)))) (sym e)
 
     pub away-answered : (l : ℕ) (b : List ℕ) (n k : ℕ) (q : Filled) (x : AwayAnswer) (y : Answer (Option ℕ)) → judged_by (position_check c p ∷ []) ≡ Good → GoodPosition c p
-        → b ≡ board c → n ≡ people c → k ≡ steps c - length p → q ≡ filled_by p → x ≡ away_answer y → y ≡ cut l (dynamic (board_arena b n) t k q) → x ≡ away_ready c p t l
+        → b ≡ board c → n ≡ people c → k ≡ steps c - length p → q ≡ filled_by p → x ≡ away_answer y → y ≡ cut l (dynamic (board_arena b n) t k q) → Ok x ≡ away_ready c p t l
     unfolding away_ready away
     away-answered l b n k q x y e v f g h w i j =
-        i
-        ∙ ap away_answer (rw (f, g, h, w) at j ∙ ap (cut l) (away-on-board c r p v.valid t))
-        ∙ ap (λ z. away_given z (cut l (away_at c t p))) (sym e)
+        ap₂ given (sym e) (i ∙ ap away_answer (rw (f, g, h, w) at j ∙ ap (cut l) (away-on-board c r p v.valid t)))

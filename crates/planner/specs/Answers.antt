@@ -1,19 +1,17 @@
 -- The answers of the public calls, from what a walk under its limit comes to. "Limit" carries the limit as count and nothing else; a plan's entries
 -- past the steps are 0.
 use Rattle.std.proofs.Math.Option.{Option, none, some}
-use Rattle.std.specs.Prelude.{List, map, ℕ, length, get_or}
+use Rattle.std.specs.Prelude.{List, map, ℕ, Result, Ok, Err, length, get_or}
 use Rattle.sets.specs.Lists.{upto}
 use Rattle.sets.specs.Stored.{stored}
 use Rattle.games.specs.Limit.{Ended, limit, ended, Answer}
 use Rattle.cases.specs.Case.{most_steps}
-use Rattle.cases.specs.Positions.{start_position}
 use Rattle.cases.specs.declared.Person.{Person}
 use Rattle.cases.specs.declared.Position.{Position}
-use Rattle.refusals.specs.declared.Judged.{Judged}
-use Rattle.refusals.specs.declared.Judged.TheVariants.{Good, Refused}
-use Rattle.planner.specs.declared.PlanSays.{PlanSays}
-use Rattle.planner.specs.declared.PlanSays.TheVariants as plan
+use Rattle.refusals.specs.declared.Refusal.{Refusal}
+use Rattle.refusals.specs.Refusals.{Judged}
 use Rattle.planner.specs.declared.PlanAnswer.{PlanAnswer}
+use Rattle.planner.specs.declared.PlanAnswer.TheVariants as plan
 use Rattle.planner.specs.declared.VerdictAnswer.{VerdictAnswer}
 use Rattle.planner.specs.declared.VerdictAnswer.TheVariants as verdict
 use Rattle.planner.specs.declared.AdviceAnswer.{AdviceAnswer}
@@ -30,14 +28,10 @@ person_of v = record { 0 = v }
 unfoldable pub position_of : List ℕ → Position
 position_of q = record { who = map (λ i. person_of (get_or q i 0)) (upto most_steps); len = length q }
 
--- no plan is shown
-abbrev pub no_plan : PlanSays → PlanAnswer
-no_plan says = record { says = says; plan = start_position }
-
 abbrev pub plan_ended : Ended (Option (List ℕ)) → ℕ → PlanAnswer
-plan_ended limit n = no_plan (plan.Limit n)
-plan_ended (ended none) n = no_plan (plan.No n)
-plan_ended (ended (some q)) n = record { says = plan.Yes n; plan = position_of q }
+plan_ended limit n = plan.Limit n
+plan_ended (ended none) n = plan.No n
+plan_ended (ended (some q)) n = plan.Yes (position_of q) n
 
 abbrev pub plan_answer : Answer (Option (List ℕ)) → PlanAnswer
 plan_answer a = plan_ended a.out a.count
@@ -67,20 +61,8 @@ away_ended (ended (some A)) n = away.People (stored A) n
 abbrev pub away_answer : Answer (Option ℕ) → AwayAnswer
 away_answer a = away_ended a.out a.count
 
--- ---- A call that is refused gives the refusal; any other its walk's answer
+-- ---- A call that is refused gives the refusal; any other its answer
 
-abbrev pub plan_given : Judged → Answer (Option (List ℕ)) → PlanAnswer
-plan_given Good a = plan_answer a
-plan_given (Refused r) a = no_plan (plan.Refused r)
-
-abbrev pub verdict_given : Judged → Answer (Option ℕ) → VerdictAnswer
-verdict_given Good a = verdict_answer a
-verdict_given (Refused r) a = verdict.Refused r
-
-abbrev pub advice_given : Judged → Answer (Option ℕ) → AdviceAnswer
-advice_given Good a = advice_answer a
-advice_given (Refused r) a = advice.Refused r
-
-abbrev pub away_given : Judged → Answer (Option ℕ) → AwayAnswer
-away_given Good a = away_answer a
-away_given (Refused r) a = away.Refused r
+abbrev pub given : {A : Type 0} → Judged → A → Result A Refusal
+given (Ok nothing) a = Ok a
+given (Err r) a = Err r

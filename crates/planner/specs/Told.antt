@@ -1,14 +1,13 @@
 -- What an answer tells, in the scope's terms: for each of its cases the refusal's number and place, and the answer with its count. A refusal has no
 -- answer; an answer has number 0 and place 0.
 use Rattle.std.proofs.Math.Option.{Option, none, some}
-use Rattle.std.specs.Prelude.{List, ℕ}
+use Rattle.std.specs.Prelude.{List, ℕ, Result, Ok, Err}
 use Rattle.sets.specs.Stored.{number}
 use Rattle.games.specs.Limit.{Answer, stopped, whole}
 use Rattle.cases.specs.Positions.{persons}
 use Rattle.refusals.specs.declared.Refusal.{Refusal}
-use Rattle.planner.specs.declared.PlanSays.{PlanSays}
-use Rattle.planner.specs.declared.PlanSays.TheVariants as plan
 use Rattle.planner.specs.declared.PlanAnswer.{PlanAnswer}
+use Rattle.planner.specs.declared.PlanAnswer.TheVariants as plan
 use Rattle.planner.specs.declared.VerdictAnswer.{VerdictAnswer}
 use Rattle.planner.specs.declared.VerdictAnswer.TheVariants as verdict
 use Rattle.planner.specs.declared.AdviceAnswer.{AdviceAnswer}
@@ -38,32 +37,32 @@ abbrev pub got_nothing : {B : Type 0} → ℕ → Told (Option B)
 got_nothing n = answered (whole (record { got = none; trials = n }))
 
 -- Plan: a yes shows a plan.
-abbrev pub plan_said : PlanSays → List ℕ → Told (Option (List ℕ))
-plan_said (plan.Refused r) q = refused r
-plan_said (plan.Limit n) q = limited n
-plan_said (plan.No n) q = got_nothing n
-plan_said (plan.Yes n) q = got q n
+abbrev pub plan_said : PlanAnswer → Told (Option (List ℕ))
+plan_said (plan.Limit n) = limited n
+plan_said (plan.No n) = got_nothing n
+plan_said (plan.Yes p n) = got (persons p) n
 
-abbrev pub plan_told : PlanAnswer → Told (Option (List ℕ))
-plan_told a = plan_said a.says (persons a.plan)
+abbrev pub plan_told : Result PlanAnswer Refusal → Told (Option (List ℕ))
+plan_told (Err r) = refused r
+plan_told (Ok a) = plan_said a
 
 -- A verdict: a yes shows nothing, a no shows a set.
-abbrev pub verdict_told : VerdictAnswer → Told (Option ℕ)
-verdict_told (verdict.Refused r) = refused r
-verdict_told (verdict.Limit n) = limited n
-verdict_told (verdict.Yes n) = got_nothing n
-verdict_told (verdict.No s n) = got (number s) n
+abbrev pub verdict_told : Result VerdictAnswer Refusal → Told (Option ℕ)
+verdict_told (Err r) = refused r
+verdict_told (Ok (verdict.Limit n)) = limited n
+verdict_told (Ok (verdict.Yes n)) = got_nothing n
+verdict_told (Ok (verdict.No s n)) = got (number s) n
 
 -- Advice names a person, or none.
-abbrev pub advice_told : AdviceAnswer → Told (Option ℕ)
-advice_told (advice.Refused r) = refused r
-advice_told (advice.Limit n) = limited n
-advice_told (advice.Nobody n) = got_nothing n
-advice_told (advice.Person v n) = got v.0 n
+abbrev pub advice_told : Result AdviceAnswer Refusal → Told (Option ℕ)
+advice_told (Err r) = refused r
+advice_told (Ok (advice.Limit n)) = limited n
+advice_told (Ok (advice.Nobody n)) = got_nothing n
+advice_told (Ok (advice.Person v n)) = got v.0 n
 
 -- Away names a set of people, or none.
-abbrev pub away_told : AwayAnswer → Told (Option ℕ)
-away_told (away.Refused r) = refused r
-away_told (away.Limit n) = limited n
-away_told (away.Nobody n) = got_nothing n
-away_told (away.People s n) = got (number s) n
+abbrev pub away_told : Result AwayAnswer Refusal → Told (Option ℕ)
+away_told (Err r) = refused r
+away_told (Ok (away.Limit n)) = limited n
+away_told (Ok (away.Nobody n)) = got_nothing n
+away_told (Ok (away.People s n)) = got (number s) n

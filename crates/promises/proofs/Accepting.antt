@@ -19,8 +19,7 @@ use Rattle.cases.specs.declared.Case.{Case}
 use Rattle.cases.specs.Case.{people, steps}
 use Rattle.cases.specs.Plans.{Valid}
 use Rattle.cases.proofs.Rounds.{may-known}
-use Rattle.refusals.specs.declared.Judged.TheVariants.{Good}
-use Rattle.refusals.specs.Refusals.{refusal, judged_by, or_else}
+use Rattle.refusals.specs.Refusals.{Good, refusal, judged_by, or_else}
 use Rattle.refusals.proofs.Cases.{good-limited}
 use Rattle.asking.specs.Asking.{absence_check, judged_question, judged_away, judged_advice}
 use Rattle.asking.proofs.Accepted.{GoodPosition, accepted-position}

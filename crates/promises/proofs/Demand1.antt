@@ -16,9 +16,7 @@ use Rattle.cases.specs.declared.Counts.{Counts}
 use Rattle.cases.specs.Case.{SameBelow}
 use Rattle.cases.specs.Chain.{plan_of, advice_at, away_at}
 use Rattle.cases.proofs.Counted.{SameWalks, nothing-above-counts, may-same, holds_same}
-use Rattle.refusals.specs.declared.Judged.{Judged}
-use Rattle.refusals.specs.declared.Judged.TheVariants.{Good, Refused}
-use Rattle.refusals.specs.Refusals.{Check, refusal, entry_check, judged_by, or_else}
+use Rattle.refusals.specs.Refusals.{Judged, Refused, Check, refusal, entry_check, judged_by, or_else}
 use Rattle.refusals.specs.CaseChecks.{judged_case}
 use Rattle.refusals.specs.Table.{Row, Meets, Exactly, case_table}
 use Rattle.refusals.proofs.Order.{good-refused}
@@ -28,8 +26,7 @@ use Rattle.words.specs.Word.{le2}
 use Rattle.words.specs.Part.{run}
 use Rattle.words.proofs.Parts.{run-cong}
 use Rattle.layout.specs.Layout.{head_bytes, bytes_of_step, bytes_of_row, bytes_of_rule, file_of}
-use Rattle.writing.specs.declared.Written.TheVariants.{Bytes}
-use Rattle.writing.specs.Writing.{room_check, write_checks, judged_write, answer_of, write_answer, held_after, written}
+use Rattle.writing.specs.Writing.{Bytes, room_check, write_checks, judged_write, answer_of, write_answer, held_after, written}
 use Rattle.files.specs.Checks.{judged_file}
 use Rattle.files.specs.FileTable.{file_table}
 use Rattle.files.proofs.Exactly.{file-exactly}
@@ -39,7 +36,8 @@ use Rattle.asking.proofs.Exact.{question-exactly, away-exactly, advice-exactly}
 use Rattle.asking.proofs.Calls.{question-order, away-order, advice-order}
 use Rattle.planner.specs.declared.Question.{Question}
 use Rattle.planner.specs.declared.Question.TheVariants.{Static, Decremental, OneShot, Dynamic}
-use Rattle.planner.specs.Answers.{plan_given, verdict_given, advice_given, away_given}
+use Rattle.std.specs.Prelude.{Ok, Err}
+use Rattle.planner.specs.Answers.{plan_answer, verdict_answer, advice_answer, away_answer, given}
 use Rattle.planner.specs.Calls.{plan_call, walk_of, question_call, advice_call, away_call}
 use Rattle.planner.specs.Told.{Told, refused, plan_told, verdict_told, advice_told, away_told}
 use Rattle.promises.specs.Ends.{number_in, place_in, RefusedAt, ByTable}
@@ -49,8 +47,8 @@ use Rattle.promises.proofs.Telling.{told, told-answered, good-told, plan-told, q
 
 module _ {B : Type 0} where
   refused-told : (j : Judged) (a : Answer B) (n place : ℕ) → RefusedAt (told j a) n place ↔ (j ≡ Refused (refusal n place))
-  refused-told Good a n place = (λ r. absurd (some-ne-none a r.nothing), λ e. absurd (good-refused refl e))
-  refused-told (Refused r) a n place = (
+  refused-told (Ok nothing) a n place = (λ r. absurd (some-ne-none a r.nothing), λ e. absurd (good-refused refl e))
+  refused-told (Err r) a n place = (
     λ x. ap₂ (λ m p. Refused (refusal m p)) x.numbered x.placed,
     λ e. let k : told (Refused r) a ≡ refused (refusal n place) = ap (λ j. told j a) e in
         record { numbered = ap (λ (d : Told B). d.number) k; placed = ap (λ (d : Told B). d.place) k; nothing = refl },
@@ -71,8 +69,8 @@ judged-by-table : (table : List Row) (j : Judged) → Exactly table j → (n pla
 judged-by-table table j x n place h = (λ k. (x.given n place).0 (there j k), λ m. back j ((x.given n place).1 m))
   where
     there : (j : Judged) → (number_in j ≡ n) × (place_in j ≡ place) → j ≡ Refused (refusal n place)
-    there Good k = absurd (omega (arith, k.0))
-    there (Refused r) k = ap₂ (λ m p. Refused (refusal m p)) k.0 k.1
+    there (Ok nothing) k = absurd (omega (arith, k.0))
+    there (Err r) k = ap₂ (λ m p. Refused (refusal m p)) k.0 k.1
 
     back : (j : Judged) → j ≡ Refused (refusal n place) → (number_in j ≡ n) × (place_in j ≡ place)
     back j e = (ap number_in e, ap place_in e)
@@ -134,11 +132,11 @@ module _ (c d : Case) (same : SameBelow c d) where
 
   pub plan-above : (l : ℕ) → plan_call c l ≡ plan_call d l
   unfolding plan_call
-  plan-above l = ap₂ (λ j w. plan_given j (cut l w)) (same-refusal c d same) walks_same.plan
+  plan-above l = ap₂ (λ j w. given j (plan_answer (cut l w))) (same-refusal c d same) walks_same.plan
 
   pub question-above : (q : Question) (t l : ℕ) → question_call q c t l ≡ question_call q d t l
   unfolding question_call
-  question-above q t l = ap₂ (λ j w. verdict_given j (cut l w)) (question-judged-same t) (walk_same q)
+  question-above q t l = ap₂ (λ j w. given j (verdict_answer (cut l w))) (question-judged-same t) (walk_same q)
     where
       walk_same : (q : Question) → walk_of q c t ≡ walk_of q d t
       walk_same Static = walks_same.static t
@@ -148,11 +146,11 @@ module _ (c d : Case) (same : SameBelow c d) where
 
   pub advice-above : (p : List ℕ) (t A l : ℕ) → advice_call c p t A l ≡ advice_call d p t A l
   unfolding advice_call
-  advice-above p t A l = ap₂ (λ j w. advice_given j (cut l w)) (advice-judged-same p t A) (walks_same.advice t A p)
+  advice-above p t A l = ap₂ (λ j w. given j (advice_answer (cut l w))) (advice-judged-same p t A) (walks_same.advice t A p)
 
   pub away-above : (p : List ℕ) (t l : ℕ) → away_call c p t l ≡ away_call d p t l
   unfolding away_call
-  away-above p t l = ap₂ (λ j w. away_given j (cut l w)) (away-judged-same p t) (walks_same.away t p)
+  away-above p t l = ap₂ (λ j w. given j (away_answer (cut l w))) (away-judged-same p t) (walks_same.away t p)
 
   -- the writer ignores it: the same answer, and the same bytes left
   write-judged-same : (n : ℕ) → judged_write n c ≡ judged_write n d
@@ -182,9 +180,9 @@ module _ (c d : Case) (same : SameBelow c d) where
       judged-same = write-judged-same (length buffer)
 
       answers : (j : Judged) → answer_of c j ≡ answer_of d j
-      answers Good = ap (λ (n : Counts). Bytes (total_of n)) same.counts
-      answers (Refused r) = refl
+      answers (Ok nothing) = ap (λ (n : Counts). Bytes (total_of n)) same.counts
+      answers (Err r) = refl
 
       holds : (j : Judged) → held_after buffer c j ≡ held_after buffer d j
-      holds Good = ap₂ (λ (f : List ℕ) (n : Counts). f ++ drop (total_of n) buffer) file-same same.counts
-      holds (Refused r) = refl
+      holds (Ok nothing) = ap₂ (λ (f : List ℕ) (n : Counts). f ++ drop (total_of n) buffer) file-same same.counts
+      holds (Err r) = refl

@@ -1,13 +1,16 @@
 -- Demand 2: plans and verdicts are those of the report (docs/SCOPE.md names it), and "limit" is said exactly if the stated walk needs more trials than allowed. In each theorem
 -- the call ends within its limit: it tells b after some trials.
-use mathlib.Core.Path.{◌≡◌, refl, sym, ◌∙◌}
+use Rattle.std.specs.Prelude.{Result, Ok, Err}
+use mathlib.Core.Path.{◌≡◌, refl, sym, ap, ◌∙◌}
 use mathlib.Core.Logic.{◌↔◌}
+use mathlib.Core.Bool.{Bool, true, false, true≢false}
 use mathlib.Core.Option.{Option, none, some}
 use mathlib.Core.List.{List, []}
 use Prim.Native.Nat.{ℕ, ◌≤◌, ◌<◌}
 use Rattle.games.specs.Games.{Absent}
-use Rattle.games.specs.Limit.{Ended, limit, ended, cut}
+use Rattle.games.specs.Limit.{Ended, limit, ended, Answer}
 use Rattle.cases.specs.declared.Case.{Case}
+use Rattle.cases.specs.declared.Position.{Position}
 use Rattle.cases.specs.Case.{people, steps}
 use Rattle.cases.specs.Plans.{Plan, FirstPlan}
 use Rattle.cases.specs.Questions.{HasPlan, StaticYes, DecrementalYes, OneShotYes, DynamicYes}
@@ -16,17 +19,16 @@ use Rattle.cases.specs.Play.{GoodSet}
 use Rattle.cases.specs.Chain.{plan_of, advice_at, away_at}
 use Rattle.cases.proofs.Answers.{plan-exact, plan-first-got, static-exact, static-no, decremental-exact, decremental-no, one_shot-exact, one_shot-no, one_shot-pass, dynamic-exact}
 use Rattle.cases.proofs.Play.{dynamic_no}
-use Rattle.refusals.specs.declared.Judged.{Judged}
-use Rattle.refusals.specs.declared.Judged.TheVariants.{Good, Refused}
+use Rattle.refusals.specs.Refusals.{Good}
 use Rattle.refusals.specs.CaseChecks.{judged_case}
 use Rattle.asking.specs.Asking.{judged_question, judged_advice, judged_away}
 use Rattle.planner.specs.declared.Question.{Question}
 use Rattle.planner.specs.declared.Question.TheVariants.{Static, Decremental, OneShot, Dynamic}
-use Rattle.planner.specs.declared.PlanSays.TheVariants as says
-use Rattle.planner.specs.Answers.{plan_given}
-use Rattle.cases.specs.Positions.{start_position}
+use Rattle.refusals.specs.declared.Refusal.{Refusal}
+use Rattle.planner.specs.declared.PlanAnswer.{PlanAnswer}
+use Rattle.planner.specs.declared.PlanAnswer.TheVariants as says
 use Rattle.planner.specs.Calls.{plan_call, walk_of, question_call, static_call, decremental_call, one_shot_call, dynamic_call, advice_call, away_call}
-use Rattle.planner.specs.Told.{plan_told, verdict_told, advice_told, away_told}
+use Rattle.planner.specs.Told.{Told, plan_told, verdict_told, advice_told, away_told}
 use Rattle.promises.specs.Ends.{SaysLimit, EndsAfter, Ends, Came}
 use Rattle.promises.proofs.Telling.{came, comes, limit-told, plan-told, question-told, advice-told, away-told}
 
@@ -57,17 +59,28 @@ plan-comes-back c l b e =
 pub plan-is-first : (c : Case) (l : ℕ) (q : List ℕ) → Ends (plan_told (plan_call c l)) (some q) → Plan c q × FirstPlan c q
 plan-is-first c l q e = (plan-first-got c q).0 (plan-came c l (some q) e.0 e.1).got
 
+-- is there a plan in what a walk comes to?
+abbrev plan_in : Ended (Option (List ℕ)) → Bool
+plan_in limit = false
+plan_in (ended none) = false
+plan_in (ended (some q)) = true
+
 -- where it does not say yes it shows no plan: neither a refusal, nor "limit", nor a no carries one
-pub plan-shows-nothing : (c : Case) (l : ℕ) → ((n : ℕ) → (plan_call c l).says ≡ says.Yes n → ⊥) → (plan_call c l).plan ≡ start_position
-unfolding plan_call
-plan-shows-nothing c l f = at (judged_case c) (cut l (plan_of c)).out (cut l (plan_of c)).count f
+pub plan-shows-nothing : (c : Case) (l : ℕ) → ((p : Position) (n : ℕ) → plan_call c l ≡ Ok (says.Yes p n) → ⊥) → (q : List ℕ) → Ends (plan_told (plan_call c l)) (some q) → ⊥
+plan-shows-nothing c l f q e = at (plan_call c l) f e
   where
-    at : (j : Judged) (o : Ended (Option (List ℕ))) (n : ℕ) → ((m : ℕ) → (plan_given j (record { out = o; count = n })).says ≡ says.Yes m → ⊥)
-        → (plan_given j (record { out = o; count = n })).plan ≡ start_position
-    at (Refused r) o n g = refl
-    at Good limit n g = refl
-    at Good (ended none) n g = refl
-    at Good (ended (some q)) n g = absurd (g n refl)
+    shown : Option (Answer (Option (List ℕ))) → Bool
+    shown none = false
+    shown (some a) = plan_in a.out
+
+    none-shown : {d : Told (Option (List ℕ))} → shown d.answer ≡ false → Ends d (some q) → ⊥
+    none-shown h k = true≢false (sym (ap (λ (d : Told (Option (List ℕ))). shown d.answer) k.1) ∙ h)
+
+    at : (a : Result PlanAnswer Refusal) → ((p : Position) (n : ℕ) → a ≡ Ok (says.Yes p n) → ⊥) → Ends (plan_told a) (some q) → ⊥
+    at (Err r) g k = none-shown refl k
+    at (Ok (says.Limit n)) g k = none-shown refl k
+    at (Ok (says.No n)) g k = none-shown refl k
+    at (Ok (says.Yes p n)) g k = g p n refl
 
 -- ---- Verdicts are yes exactly if the desk wins that game; a no shows what the scope says
 

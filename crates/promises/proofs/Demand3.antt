@@ -23,7 +23,7 @@ use Rattle.cases.proofs.Positions.{map-append}
 use Rattle.cases.proofs.Answers.{dynamic-exact, dynamic-decremental, decremental-one_shot, one_shot-static, static-plan}
 use Rattle.cases.proofs.Play.{away-names, away-none-more, advice-names, advice-names-none, away-none-wins}
 use Rattle.cases.proofs.Play as play
-use Rattle.refusals.specs.declared.Judged.TheVariants.{Good}
+use Rattle.refusals.specs.Refusals.{Good}
 use Rattle.asking.specs.Asking.{judged_question, judged_advice, judged_away}
 use Rattle.asking.proofs.Accepted.{GoodPosition}
 use Rattle.asking.proofs.Calls.{advice-good, away-good}

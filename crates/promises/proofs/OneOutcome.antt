@@ -3,28 +3,24 @@
 -- (The exceptions: docs/CONTRACTS.md names them and says why.)
 use mathlib.Core.Path.{◌≡◌, refl, sym, ap, ◌∙◌}
 use mathlib.Core.Option.{Option, none, some}
+use Rattle.std.specs.Prelude as std
 use mathlib.Core.List.{List}
 use Prim.Native.Nat.{ℕ, ◌<◌}
 use native.Mathlib.Omega.{arith}
 use Rattle.sets.specs.Sets.{common}
 use Rattle.sets.specs.Stored.{width, number, stored, wide_number, next_number, lowest_number}
 use Rattle.sets.specs.declared.People.{People}
-use Rattle.sets.specs.declared.Wide.{Wide}
-use Rattle.sets.specs.declared.Wide.TheVariants as wide
-use Rattle.sets.specs.declared.Next.{Next}
-use Rattle.sets.specs.declared.Next.TheVariants as next
-use Rattle.sets.specs.declared.Lowest.{Lowest}
-use Rattle.sets.specs.declared.Lowest.TheVariants as lowest
 use Rattle.sets.proofs.Records.{stored-number, number-injective}
 use Rattle.games.specs.Limit.{Ended, limit, ended, Answer}
 use Rattle.cases.specs.declared.Filled.{Filled}
+use Rattle.cases.specs.declared.Person.{Person}
 use Rattle.cases.specs.Positions.{persons}
 use Rattle.boards.specs.Board.{fits_on}
 use Rattle.boards.specs.Arena.{Done}
 use Rattle.boards.proofs.Looked.{agree_same}
 use Rattle.lines.specs.declared.Cursor.{Cursor}
-use Rattle.lines.specs.declared.Try.{Try as Move}
-use Rattle.lines.specs.declared.Try.TheVariants as move
+use Rattle.lines.specs.declared.Try.{Try}
+use Rattle.lines.specs.declared.Try.TheVariants as try
 use Rattle.lines.specs.Moves.{try_outcome as move_outcome, lines_of}
 use Rattle.tries.specs.declared.Verdict.{Verdict}
 use Rattle.tries.specs.declared.Verdict.TheVariants as verdict
@@ -33,10 +29,6 @@ use Rattle.tries.specs.declared.Advised.TheVariants as advised
 use Rattle.tries.specs.declared.Turn.{Turn}
 use Rattle.tries.specs.declared.Turn.TheVariants as turn
 use Rattle.tries.specs.declared.Line.{Line}
-use Rattle.tries.specs.declared.Try.{Try}
-use Rattle.tries.specs.declared.Try.TheVariants as try
-use Rattle.tries.specs.declared.Spent.{Spent}
-use Rattle.tries.specs.declared.Spent.TheVariants as spent
 use Rattle.tries.specs.Outcomes.{verdict_outcome, advised_outcome, turn_outcome}
 use Rattle.tries.specs.Trying.{step_on, InLine, try_outcome}
 use Rattle.tries.specs.Alike.{spent_outcome}
@@ -89,12 +81,10 @@ use Rattle.cases.proofs.everybody_if.Reads as everybody-if-reads
 use Rattle.words.proofs.byte_at.Reads as byte-at-reads
 use Rattle.words.proofs.word_at.Reads as word-at-reads
 use Rattle.words.proofs.long_at.Reads as long-at-reads
-use Rattle.words.proofs.both.Reads as both-reads
-use Rattle.words.proofs.either.Reads as either-reads
 use Rattle.words.proofs.put_word.Reads as put-word-reads
 use Rattle.words.proofs.put_long.Reads as put-long-reads
-use Rattle.refusals.proofs.Judged.or_else.Reads as or-else-reads
-use Rattle.refusals.proofs.Judged.refused_if.Reads as refused-if-reads
+use Rattle.refusals.proofs.or_else.Reads as or-else-reads
+use Rattle.refusals.proofs.refused_if.Reads as refused-if-reads
 use Rattle.layout.proofs.steps_at.Reads as steps-at-reads
 use Rattle.layout.proofs.tables_at.Reads as tables-at-reads
 use Rattle.layout.proofs.rules_at.Reads as rules-at-reads
@@ -109,15 +99,13 @@ use Rattle.headers.proofs.judge_header.Reads as judge-header-reads
 use Rattle.entries.proofs.case_at.Reads as case-at-reads
 use Rattle.files.proofs.judge.Reads as judge-reads
 use Rattle.files.proofs.read.Reads as read-reads
-use Rattle.files.proofs.people_part.Reads as people-part-reads
-use Rattle.files.proofs.steps_part.Reads as steps-part-reads
-use Rattle.files.proofs.tables_part.Reads as tables-part-reads
-use Rattle.files.proofs.rules_part.Reads as rules-part-reads
+use Rattle.files.proofs.part_of.Reads as part-of-reads
 use Rattle.writing.proofs.write.Reads as write-reads
 use Rattle.boards.proofs.allowed.Reads as allowed-reads
 use Rattle.boards.proofs.ready.Reads as ready-reads
 use Rattle.boards.proofs.fits.Reads as fits-reads
 use Rattle.boards.proofs.fitting.Reads as fitting-reads
+use Rattle.boards.proofs.less.Reads as less_reads
 use Rattle.pieces.proofs.row.Reads as row_reads
 use Rattle.pieces.proofs.column.Reads as column-reads
 use Rattle.pieces.proofs.loops.Reads as loops-reads
@@ -211,39 +199,35 @@ use Rattle.rodcrank.proofs.rodcrank_verdicts.Reads as rodcrank-verdicts-reads
 
 -- ---- What an answer says fixes it
 
-abbrev lowest-back : Option ℕ → Lowest
-lowest-back none = lowest.Nobody
-lowest-back (some v) = lowest.Person v
+abbrev lowest-back : Option ℕ → std.Option ℕ
+lowest-back none = std.None
+lowest-back (some v) = std.Some v
 
-lowest-same : (r s : Lowest) → lowest_number r ≡ lowest_number s → r ≡ s
+lowest-same : (r s : std.Option ℕ) → lowest_number r ≡ lowest_number s → r ≡ s
 lowest-same r s e = sym (back r) ∙ ap lowest-back e ∙ back s
   where
-    back : (x : Lowest) → lowest-back (lowest_number x) ≡ x
-    back lowest.Nobody = refl
-    back (lowest.Person v) = refl
+    back : (x : std.Option ℕ) → lowest-back (lowest_number x) ≡ x
+    back std.None = refl
+    back (std.Some v) = refl
 
-abbrev wide_back : Option ℕ → Wide
-wide_back none = wide.Past
-wide_back (some s) = wide.Set (stored s)
+abbrev set-back : Option ℕ → std.Option People
+set-back none = std.None
+set-back (some s) = std.Some (stored s)
 
-wide-same : (r s : Wide) → wide_number r ≡ wide_number s → r ≡ s
-wide-same r s e = sym (back r) ∙ ap wide_back e ∙ back s
+wide-same : (r s : std.Option People) → wide_number r ≡ wide_number s → r ≡ s
+wide-same r s e = sym (back r) ∙ ap set-back e ∙ back s
   where
-    back : (x : Wide) → wide_back (wide_number x) ≡ x
-    back wide.Past = refl
-    back (wide.Set p) = ap wide.Set (stored-number p)
+    back : (x : std.Option People) → set-back (wide_number x) ≡ x
+    back std.None = refl
+    back (std.Some p) = ap std.Some (stored-number p)
 
-abbrev next-back : Option ℕ → Next
-next-back none = next.Nothing
-next-back (some s) = next.Set (stored s)
-
-next-same : (r s : Next) → next_number r ≡ next_number s → r ≡ s
+next-same : (r s : std.Option People) → next_number r ≡ next_number s → r ≡ s
 unfolding next_number
-next-same r s e = sym (back r) ∙ ap next-back e ∙ back s
+next-same r s e = sym (back r) ∙ ap set-back e ∙ back s
   where
-    back : (x : Next) → next-back (next_number x) ≡ x
-    back next.Nothing = refl
-    back (next.Set p) = ap next.Set (stored-number p)
+    back : (x : std.Option People) → set-back (next_number x) ≡ x
+    back std.None = refl
+    back (std.Some p) = ap std.Some (stored-number p)
 
 abbrev verdict-back : Ended (Option ℕ) → ℕ → Verdict
 verdict-back limit n = verdict.Limit
@@ -284,42 +268,38 @@ turn-same l A r s e = sym (back r) ∙ ap (λ (a : Answer (Option ℕ)). turn-ba
     back (turn.Beaten n) = refl
     back (turn.Holds n) = refl
 
-abbrev spent-back : Option ℕ → Spent
-spent-back none = spent.Limit
-spent-back (some c) = spent.All c
-
-spent-same : (r s : Spent) → spent_outcome r ≡ spent_outcome s → r ≡ s
-spent-same r s e = sym (back r) ∙ ap spent-back e ∙ back s
+spent-same : (r s : std.Option ℕ) → spent_outcome r ≡ spent_outcome s → r ≡ s
+spent-same r s e = sym (back r) ∙ ap lowest-back e ∙ back s
   where
-    back : (x : Spent) → spent-back (spent_outcome x) ≡ x
-    back spent.Limit = refl
-    back (spent.All c) = refl
+    back : (x : std.Option ℕ) → lowest-back (spent_outcome x) ≡ x
+    back std.None = refl
+    back (std.Some c) = refl
 
-abbrev try-back : Option (Option ℕ × ℕ) → Try
+abbrev try-back : Option (Option ℕ × ℕ) → Try Person
 try-back none = try.Limit
 try-back (some (none, c)) = try.Nobody c
-try-back (some (some v, c)) = try.Person (record { 0 = v }) c
+try-back (some (some v, c)) = try.Move (record { 0 = v }) c
 
-try-same : (r s : Try) → try_outcome r ≡ try_outcome s → r ≡ s
+try-same : (r s : Try Person) → try_outcome r ≡ try_outcome s → r ≡ s
 try-same r s e = sym (back r) ∙ ap try-back e ∙ back s
   where
-    back : (x : Try) → try-back (try_outcome x) ≡ x
+    back : (x : Try Person) → try-back (try_outcome x) ≡ x
     back try.Limit = refl
     back (try.Nobody c) = refl
-    back (try.Person v c) = refl
+    back (try.Move v c) = refl
 
-abbrev move-back : Option (Option Cursor × ℕ) → Move
-move-back none = move.Limit
-move-back (some (none, c)) = move.Nobody c
-move-back (some (some m, c)) = move.Move m c
+abbrev move-back : Option (Option Cursor × ℕ) → Try Cursor
+move-back none = try.Limit
+move-back (some (none, c)) = try.Nobody c
+move-back (some (some m, c)) = try.Move m c
 
-move_same : (r s : Move) → move_outcome r ≡ move_outcome s → r ≡ s
+move_same : (r s : Try Cursor) → move_outcome r ≡ move_outcome s → r ≡ s
 move_same r s e = sym (back r) ∙ ap move-back e ∙ back s
   where
-    back : (x : Move) → move-back (move_outcome x) ≡ x
-    back move.Limit = refl
-    back (move.Nobody c) = refl
-    back (move.Move m c) = refl
+    back : (x : Try Cursor) → move-back (move_outcome x) ≡ x
+    back try.Limit = refl
+    back (try.Nobody c) = refl
+    back (try.Move m c) = refl
 
 -- a line is its two sets
 line_same : (r s : Line) → number r.tried ≡ number s.tried → number r.fit ≡ number s.fit → r ≡ s
@@ -432,7 +412,7 @@ pub small-past-one : (κs : _) (args : _) (r s : _) (x y : _) → small-past-rea
 small-past-one κs args r s x y p q = p ∙ sym q
 
 pub small-lowest-in-one : (κs : _) (args : _) (r s : _) (x y : _) → small-lowest-in-reads.Post κs args r x → small-lowest-in-reads.Post κs args s y → r ≡ s
-small-lowest-in-one κs args r s x y p q = p ∙ sym q
+small-lowest-in-one κs args r s x y p q = lowest-same r s (p ∙ sym q)
 
 pub small-with-one : (κs : _) (args : _) (r s : _) (x y : _) → small-with-reads.Post κs args r x → small-with-reads.Post κs args s y → r ≡ s
 small-with-one κs args r s x y p q = p ∙ sym q
@@ -482,12 +462,6 @@ word-at-one κs args r s x y p q = p ∙ sym q
 
 pub long-at-one : (κs : _) (args : _) (r s : _) (x y : _) → long-at-reads.Post κs args r x → long-at-reads.Post κs args s y → r ≡ s
 long-at-one κs args r s x y p q = p ∙ sym q
-
-pub both_one : (κs : _) (args : _) (r s : _) (x y : _) → both-reads.Post κs args r x → both-reads.Post κs args s y → r ≡ s
-both_one κs args r s x y p q = p ∙ sym q
-
-pub either-one : (κs : _) (args : _) (r s : _) (x y : _) → either-reads.Post κs args r x → either-reads.Post κs args s y → r ≡ s
-either-one κs args r s x y p q = p ∙ sym q
 
 pub put-word-one : (κs : _) (args : _) (r s : _) (x y : _) → put-word-reads.Post κs args r x → put-word-reads.Post κs args s y → x.0.now ≡ y.0.now
 put-word-one κs args r s x y p q = p ∙ sym q
@@ -555,17 +529,8 @@ judge-one κs args r s x y p q = p ∙ sym q
 pub read_one : (κs : _) (args : _) (r s : _) (x y : _) → read-reads.Post κs args r x → read-reads.Post κs args s y → r ≡ s
 read_one κs args r s x y p q = p ∙ sym q
 
-pub people-part-one : (κs : _) (args : _) (r s : _) (x y : _) → people-part-reads.Post κs args r x → people-part-reads.Post κs args s y → seen r ≡ seen s
-people-part-one κs args r s x y p q = p ∙ sym q
-
-pub steps-part-one : (κs : _) (args : _) (r s : _) (x y : _) → steps-part-reads.Post κs args r x → steps-part-reads.Post κs args s y → seen r ≡ seen s
-steps-part-one κs args r s x y p q = p ∙ sym q
-
-pub tables-part-one : (κs : _) (args : _) (r s : _) (x y : _) → tables-part-reads.Post κs args r x → tables-part-reads.Post κs args s y → seen r ≡ seen s
-tables-part-one κs args r s x y p q = p ∙ sym q
-
-pub rules-part-one : (κs : _) (args : _) (r s : _) (x y : _) → rules-part-reads.Post κs args r x → rules-part-reads.Post κs args s y → seen r ≡ seen s
-rules-part-one κs args r s x y p q = p ∙ sym q
+pub part-of-one : (κs : _) (args : _) (r s : _) (x y : _) → part-of-reads.Post κs args r x → part-of-reads.Post κs args s y → seen r ≡ seen s
+part-of-one κs args r s x y p q = p ∙ sym q
 
 -- ---- `writing`: Writing
 
@@ -585,6 +550,9 @@ fits_one κs args r s x y p q = number-injective r s (p ∙ sym q)
 
 pub fitting-one : (κs : _) (args : _) (r s : _) (x y : _) → fitting-reads.Post κs args r x → fitting-reads.Post κs args s y → r.people ≡ s.people
 fitting-one κs args r s x y p q = number-injective r.people s.people (p _ (agree_same _ _) ∙ sym (q _ (agree_same _ _)))
+
+pub less_one : (κs : _) (args : _) (r s : _) (x y : _) → less_reads.Post κs args r x → less_reads.Post κs args s y → r ≡ s
+less_one κs args r s x y p q = p ∙ sym q
 
 -- ---- `pieces`: What stands at a place of a board
 
@@ -642,10 +610,10 @@ next-step-one κs args r s x y p q = ap (λ (v : ℕ). record { 0 = v }) (p ∙ 
 pub several-one : (κs : _) (args : _) (r s : _) (x y : _) → several-reads.Post κs args r x → several-reads.Post κs args s y → r ≡ s
 several-one κs args r s x y p q = p ∙ sym q
 
-pub line-up-one : (κs : _) (args : _) (r s : _) (x y : _) → line-up-reads.Post κs args r x → line-up-reads.Post κs args s y → r.line ≡ s.line
-line-up-one κs args r s x y p q = in-line-same _ _ _ _ r.line s.line (p _ (agree_same _ _)) (q _ (agree_same _ _))
+pub line-up-one : (κs : _) (args : _) (r s : _) (x y : _) → line-up-reads.Post κs args r x → line-up-reads.Post κs args s y → r.value ≡ s.value
+line-up-one κs args r s x y p q = in-line-same _ _ _ _ r.value s.value (p _ (agree_same _ _)) (q _ (agree_same _ _))
 
-pub lines-up-one : (κs : _) (args : _) (r s : _) (x y : _) → lines-up-reads.Post κs args r x → lines-up-reads.Post κs args s y → lines_of r.lines ≡ lines_of s.lines
+pub lines-up-one : (κs : _) (args : _) (r s : _) (x y : _) → lines-up-reads.Post κs args r x → lines-up-reads.Post κs args s y → lines_of r.value ≡ lines_of s.value
 lines-up-one κs args r s x y p q = p.lines _ (agree_same _ _) ∙ sym (q.lines _ (agree_same _ _))
 
 pub next-try-one : (κs : _) (args : _) (r s : _) (x y : _) → next-try-reads.Post κs args r x → next-try-reads.Post κs args s y → r ≡ s
@@ -705,24 +673,24 @@ raised-one κs args r s x y p q = (p.held ∙ sym q.held, p.room ∙ sym q.room,
 
 -- ---- `plans`: The search for a plan
 
-pub without-plan-one : (κs : _) (args : _) (r s : _) (x y : _) → without-plan-reads.Post κs args r x → without-plan-reads.Post κs args s y → r.turn ≡ s.turn
-without-plan-one κs args r s x y p q = turn-same _ _ r.turn s.turn (p _ (agree_same _ _) ∙ sym (q _ (agree_same _ _)))
+pub without-plan-one : (κs : _) (args : _) (r s : _) (x y : _) → without-plan-reads.Post κs args r x → without-plan-reads.Post κs args s y → r.value ≡ s.value
+without-plan-one κs args r s x y p q = turn-same _ _ r.value s.value (p _ (agree_same _ _) ∙ sym (q _ (agree_same _ _)))
 
 -- ---- `statics`: The static walk
 
 pub static-walk-one : (κs : _) (args : _) (r s : _) (x y : _) → static-walk-reads.Post κs args r x → static-walk-reads.Post κs args s y → r ≡ s
 static-walk-one κs args r s x y p q = verdict-same _ r s (p ∙ sym q)
 
-pub static-from-one : (κs : _) (args : _) (r s : _) (x y : _) → static-from-reads.Post κs args r x → static-from-reads.Post κs args s y → r.verdict ≡ s.verdict
-static-from-one κs args r s x y p q = verdict-same _ r.verdict s.verdict (p _ (agree_same _ _) ∙ sym (q _ (agree_same _ _)))
+pub static-from-one : (κs : _) (args : _) (r s : _) (x y : _) → static-from-reads.Post κs args r x → static-from-reads.Post κs args s y → r.value ≡ s.value
+static-from-one κs args r s x y p q = verdict-same _ r.value s.value (p _ (agree_same _ _) ∙ sym (q _ (agree_same _ _)))
 
 -- ---- `rounds`: The search of the dynamic game
 
 pub dynamic-walk-one : (κs : _) (args : _) (r s : _) (x y : _) → dynamic-walk-reads.Post κs args r x → dynamic-walk-reads.Post κs args s y → r ≡ s
 dynamic-walk-one κs args r s x y p q = verdict-same _ r s (p ∙ sym q)
 
-pub dynamic-from-one : (κs : _) (args : _) (r s : _) (x y : _) → dynamic-from-reads.Post κs args r x → dynamic-from-reads.Post κs args s y → r.verdict ≡ s.verdict
-dynamic-from-one κs args r s x y p q = verdict-same _ r.verdict s.verdict (p _ (agree_same _ _) ∙ sym (q _ (agree_same _ _)))
+pub dynamic-from-one : (κs : _) (args : _) (r s : _) (x y : _) → dynamic-from-reads.Post κs args r x → dynamic-from-reads.Post κs args s y → r.value ≡ s.value
+dynamic-from-one κs args r s x y p q = verdict-same _ r.value s.value (p _ (agree_same _ _) ∙ sym (q _ (agree_same _ _)))
 
 -- ---- `advising`: Advice
 

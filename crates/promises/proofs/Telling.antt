@@ -16,13 +16,13 @@ use Rattle.cases.specs.Case.{most_steps}
 use Rattle.cases.specs.Chain.{plan_of, advice_at, away_at}
 use Rattle.cases.proofs.Answers.{plan-first-got}
 use Rattle.refusals.specs.declared.Refusal.{Refusal}
-use Rattle.refusals.specs.declared.Judged.{Judged}
-use Rattle.refusals.specs.declared.Judged.TheVariants.{Good, Refused}
+use Rattle.refusals.specs.Refusals.{Judged, Good}
 use Rattle.refusals.specs.CaseChecks.{judged_case}
 use Rattle.refusals.proofs.Cases.{good-limited}
 use Rattle.asking.specs.Asking.{judged_question, judged_advice, judged_away}
 use Rattle.planner.specs.declared.Question.{Question}
-use Rattle.planner.specs.Answers.{plan_given, verdict_given, advice_given, away_given}
+use Rattle.std.specs.Prelude.{Ok, Err}
+use Rattle.planner.specs.Answers.{plan_answer, verdict_answer, advice_answer, away_answer, given}
 use Rattle.planner.specs.Calls.{plan_call, walk_of, question_call, advice_call, away_call}
 use Rattle.planner.proofs.Sayings.{persons-position}
 use Rattle.planner.specs.Told.{Told, refused, answered, plan_told, verdict_told, advice_told, away_told}
@@ -31,8 +31,8 @@ use Rattle.promises.specs.Ends.{SaysLimit, EndsAfter, Ends, Came}
 -- ---- a judgement, and what is answered where it is good
 
 abbrev pub told : {B : Type 0} → Judged → Answer B → Told B
-told Good a = answered a
-told (Refused r) a = refused r
+told (Ok nothing) a = answered a
+told (Err r) a = refused r
 
 module _ {B : Type 0} where
   -- an answer is no refusal
@@ -40,8 +40,8 @@ module _ {B : Type 0} where
   answered-refused a r e = some-ne-none a (ap (λ (d : Told B). d.answer) e)
 
   pub told-answered : (j : Judged) (a b : Answer B) → told j a ≡ answered b → (j ≡ Good) × (a ≡ b)
-  told-answered Good a b e = (refl, some-injective a b (ap (λ (d : Told B). d.answer) e))
-  told-answered (Refused r) a b e = absurd (answered-refused b r (sym e))
+  told-answered (Ok nothing) a b e = (refl, some-injective a b (ap (λ (d : Told B). d.answer) e))
+  told-answered (Err r) a b e = absurd (answered-refused b r (sym e))
 
   pub good-told : (j : Judged) (a : Answer B) → j ≡ Good → told j a ≡ answered a
   good-told j a e = ap (λ i. told i a) e
@@ -80,42 +80,42 @@ module _ {B : Type 0} where
 
 -- ---- the calls
 
-verdict-answers : (j : Judged) (o : Ended (Option ℕ)) (n : ℕ) → verdict_told (verdict_given j (record { out = o; count = n })) ≡ told j (record { out = o; count = n })
-verdict-answers (Refused r) o n = refl
-verdict-answers Good limit n = refl
-verdict-answers Good (ended none) n = refl
-verdict-answers Good (ended (some A)) n = ap (λ x. answered (whole (record { got = some x; trials = n }))) (number-stored A)
+verdict-answers : (j : Judged) (o : Ended (Option ℕ)) (n : ℕ) → verdict_told (given j (verdict_answer (record { out = o; count = n }))) ≡ told j (record { out = o; count = n })
+verdict-answers (Err r) o n = refl
+verdict-answers (Ok nothing) limit n = refl
+verdict-answers (Ok nothing) (ended none) n = refl
+verdict-answers (Ok nothing) (ended (some A)) n = ap (λ x. answered (whole (record { got = some x; trials = n }))) (number-stored A)
 
 pub question-told : (q : Question) (c : Case) (t l : ℕ) → verdict_told (question_call q c t l) ≡ told (judged_question c t) (cut l (walk_of q c t))
 unfolding question_call
 question-told q c t l = verdict-answers (judged_question c t) (cut l (walk_of q c t)).out (cut l (walk_of q c t)).count
 
-advice-answers : (j : Judged) (o : Ended (Option ℕ)) (n : ℕ) → advice_told (advice_given j (record { out = o; count = n })) ≡ told j (record { out = o; count = n })
-advice-answers (Refused r) o n = refl
-advice-answers Good limit n = refl
-advice-answers Good (ended none) n = refl
-advice-answers Good (ended (some u)) n = refl
+advice-answers : (j : Judged) (o : Ended (Option ℕ)) (n : ℕ) → advice_told (given j (advice_answer (record { out = o; count = n }))) ≡ told j (record { out = o; count = n })
+advice-answers (Err r) o n = refl
+advice-answers (Ok nothing) limit n = refl
+advice-answers (Ok nothing) (ended none) n = refl
+advice-answers (Ok nothing) (ended (some u)) n = refl
 
 pub advice-told : (c : Case) (p : List ℕ) (t A l : ℕ) → advice_told (advice_call c p t A l) ≡ told (judged_advice c p t A) (cut l (advice_at c t A p))
 unfolding advice_call
 advice-told c p t A l = advice-answers (judged_advice c p t A) (cut l (advice_at c t A p)).out (cut l (advice_at c t A p)).count
 
-away-answers : (j : Judged) (o : Ended (Option ℕ)) (n : ℕ) → away_told (away_given j (record { out = o; count = n })) ≡ told j (record { out = o; count = n })
-away-answers (Refused r) o n = refl
-away-answers Good limit n = refl
-away-answers Good (ended none) n = refl
-away-answers Good (ended (some A)) n = ap (λ x. answered (whole (record { got = some x; trials = n }))) (number-stored A)
+away-answers : (j : Judged) (o : Ended (Option ℕ)) (n : ℕ) → away_told (given j (away_answer (record { out = o; count = n }))) ≡ told j (record { out = o; count = n })
+away-answers (Err r) o n = refl
+away-answers (Ok nothing) limit n = refl
+away-answers (Ok nothing) (ended none) n = refl
+away-answers (Ok nothing) (ended (some A)) n = ap (λ x. answered (whole (record { got = some x; trials = n }))) (number-stored A)
 
 pub away-told : (c : Case) (p : List ℕ) (t l : ℕ) → away_told (away_call c p t l) ≡ told (judged_away c p t) (cut l (away_at c t p))
 unfolding away_call
 away-told c p t l = away-answers (judged_away c p t) (cut l (away_at c t p)).out (cut l (away_at c t p)).count
 
 plan-answers : (j : Judged) (o : Ended (Option (List ℕ))) (n : ℕ) → ((q : List ℕ) → j ≡ Good → o ≡ ended (some q) → length q ≤ most_steps)
-    → plan_told (plan_given j (record { out = o; count = n })) ≡ told j (record { out = o; count = n })
-plan-answers (Refused r) o n h = refl
-plan-answers Good limit n h = refl
-plan-answers Good (ended none) n h = refl
-plan-answers Good (ended (some q)) n h = ap (λ x. answered (whole (record { got = some x; trials = n }))) (persons-position q (h q refl refl))
+    → plan_told (given j (plan_answer (record { out = o; count = n }))) ≡ told j (record { out = o; count = n })
+plan-answers (Err r) o n h = refl
+plan-answers (Ok nothing) limit n h = refl
+plan-answers (Ok nothing) (ended none) n h = refl
+plan-answers (Ok nothing) (ended (some q)) n h = ap (λ x. answered (whole (record { got = some x; trials = n }))) (persons-position q (h q refl refl))
 
 pub plan-told : (c : Case) (l : ℕ) → plan_told (plan_call c l) ≡ told (judged_case c) (cut l (plan_of c))
 unfolding plan_call

@@ -1,22 +1,21 @@
 -- A call is refused, stops at its limit, or ends within it.
-use Rattle.std.specs.Prelude.{◌≡◌, ◌↔◌, List, ℕ, ◌≤◌, ◌<◌}
+use Rattle.std.specs.Prelude.{◌≡◌, ◌↔◌, List, ℕ, Ok, Err, ◌≤◌, ◌<◌}
 use Rattle.std.proofs.Math.Option.{none, some}
 use Rattle.games.specs.Walks.{Walk}
 use Rattle.games.specs.Limit.{Answer, stopped, whole}
-use Rattle.refusals.specs.declared.Judged.{Judged}
-use Rattle.refusals.specs.declared.Judged.TheVariants.{Good, Refused}
+use Rattle.refusals.specs.Refusals.{Judged, Good}
 use Rattle.refusals.specs.Table.{Row, Meets}
 use Rattle.planner.specs.Told.{Told}
 
 -- ---- What judging tells, in the scope's numbers: 0 and 0 where nothing is refused
 
 abbrev pub number_in : Judged → ℕ
-number_in Good = 0
-number_in (Refused r) = r.number
+number_in (Ok nothing) = 0
+number_in (Err r) = r.number
 
 abbrev pub place_in : Judged → ℕ
-place_in Good = 0
-place_in (Refused r) = r.place
+place_in (Ok nothing) = 0
+place_in (Err r) = r.place
 
 -- ---- What a call tells
 

@@ -15,6 +15,7 @@ pub fn read_full<R: Read>(from: &mut R, buf: &mut [u8]) -> io::Result<usize>
     ensures bytes { IfOk result (λ n. Consumes (R.remaining from.old) (R.remaining from.new) (take n buf.new)) }
     ensures filled { IfOk result (λ n. n < length buf.new → IsAtEnd (R.remaining from.new)) }
 {
+    // A read says how many bytes it put, so no `for` can count them.
     let mut done = 0;
     while done < buf.len() {
         let n = from.read(&mut buf[done..])?;

@@ -79,9 +79,3 @@ module _ (b : List ℕ) where
   pub placed-all : {i : ℕ} {p : Position} → Placed i p → length b ≤ 2 * i → persons p ≡ take most_steps (persons_in b)
   placed-all {i} d h =
       d.front ∙ take_all i (persons_in b) (entries_over i h) ∙ sym (take_all most_steps (persons_in b) (omega (arith, d.few, entries_over i h)))
-
-  pub placed_end : {i : ℕ} {p : Position} → Placed i p → most_steps ≤ i → persons p ≡ take most_steps (persons_in b)
-  placed_end {i} d h = d.front ∙ ap (λ k. take k (persons_in b)) same
-    where
-      same : i ≡ most_steps
-      same = omega (arith, d.few)

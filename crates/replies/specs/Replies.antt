@@ -9,11 +9,12 @@
 --   9         steps: how many steps the plan has
 --   10 to 17  the plan's persons, step by step; past its end 0
 -- What an answer does not have is 0.
-use Rattle.std.specs.Prelude.{List, [], ◌∷◌, ℕ, length, get_or}
+use Rattle.std.specs.Prelude.{List, [], ◌∷◌, ℕ, Result, Ok, Err, length, get_or}
 use Rattle.sets.specs.Stored.{number, low_word, high_word}
+use Rattle.cases.specs.Positions.{persons}
 use Rattle.refusals.specs.declared.Refusal.{Refusal}
-use Rattle.planner.specs.declared.PlanSays.{PlanSays}
-use Rattle.planner.specs.declared.PlanSays.TheVariants as plan
+use Rattle.planner.specs.declared.PlanAnswer.{PlanAnswer}
+use Rattle.planner.specs.declared.PlanAnswer.TheVariants as plan
 use Rattle.planner.specs.declared.VerdictAnswer.{VerdictAnswer}
 use Rattle.planner.specs.declared.VerdictAnswer.TheVariants as verdict
 use Rattle.planner.specs.declared.AdviceAnswer.{AdviceAnswer}
@@ -69,29 +70,29 @@ planned_reply n q = reply says_yes n 0 0 0 q
 -- ---- The planner's answers
 
 -- plan: a yes shows the plan
-abbrev pub plan_reply : PlanSays → List ℕ → List ℕ
-plan_reply (plan.Refused r) q = refused_reply r
-plan_reply (plan.Limit n) q = said_reply says_limit n
-plan_reply (plan.No n) q = said_reply says_no n
-plan_reply (plan.Yes n) q = planned_reply n q
+abbrev pub plan_reply : Result PlanAnswer Refusal → List ℕ
+plan_reply (Err r) = refused_reply r
+plan_reply (Ok (plan.Limit n)) = said_reply says_limit n
+plan_reply (Ok (plan.No n)) = said_reply says_no n
+plan_reply (Ok (plan.Yes p n)) = planned_reply n (persons p)
 
 -- a verdict: a no shows a set
-abbrev pub verdict_reply : VerdictAnswer → List ℕ
-verdict_reply (verdict.Refused r) = refused_reply r
-verdict_reply (verdict.Limit n) = said_reply says_limit n
-verdict_reply (verdict.Yes n) = said_reply says_yes n
-verdict_reply (verdict.No s n) = shown_reply says_no n (number s)
+abbrev pub verdict_reply : Result VerdictAnswer Refusal → List ℕ
+verdict_reply (Err r) = refused_reply r
+verdict_reply (Ok (verdict.Limit n)) = said_reply says_limit n
+verdict_reply (Ok (verdict.Yes n)) = said_reply says_yes n
+verdict_reply (Ok (verdict.No s n)) = shown_reply says_no n (number s)
 
 -- advice on a step: it names a person
-abbrev pub advice_reply : ℕ → AdviceAnswer → List ℕ
-advice_reply step (advice.Refused r) = refused_reply r
-advice_reply step (advice.Limit n) = said_reply says_limit n
-advice_reply step (advice.Nobody n) = said_reply says_nobody n
-advice_reply step (advice.Person v n) = named_reply n step v.0
+abbrev pub advice_reply : ℕ → Result AdviceAnswer Refusal → List ℕ
+advice_reply step (Err r) = refused_reply r
+advice_reply step (Ok (advice.Limit n)) = said_reply says_limit n
+advice_reply step (Ok (advice.Nobody n)) = said_reply says_nobody n
+advice_reply step (Ok (advice.Person v n)) = named_reply n step v.0
 
 -- away names a set
-abbrev pub away_reply : AwayAnswer → List ℕ
-away_reply (away.Refused r) = refused_reply r
-away_reply (away.Limit n) = said_reply says_limit n
-away_reply (away.Nobody n) = said_reply says_nobody n
-away_reply (away.People s n) = shown_reply says_named n (number s)
+abbrev pub away_reply : Result AwayAnswer Refusal → List ℕ
+away_reply (Err r) = refused_reply r
+away_reply (Ok (away.Limit n)) = said_reply says_limit n
+away_reply (Ok (away.Nobody n)) = said_reply says_nobody n
+away_reply (Ok (away.People s n)) = shown_reply says_named n (number s)

@@ -6,7 +6,7 @@ ghost use Rattle.replies.specs.Pairs.{person_in, persons_in};
 
 use cases::{Case, Person, Position};
 
-// A number that no person of a case has.
+// A number that no person of a case has. It stands for nobody known, as the definition `unknown` has it, so that a bad pair is judged like any other.
 const UNKNOWN: u8 = 255;
 
 // The first 8 entries as a position. A longer one is turned away by 13 whatever it holds, and so are these 8.
@@ -14,13 +14,11 @@ pub fn position_of(bytes: &[u8]) -> Position
     ensures { persons result ≡ take most_steps (persons_in bytes.now) }
 {
     let mut p = Position::start();
-    let mut i: u8 = 0;
-    while (i as usize) < Case::STEPS {
+    for i in 0..Case::STEPS as u8 {
         if bytes.len() < 2 * (i as usize) + 1 {
             return p;
         }
         p = p.placed(person_in(bytes, i));
-        i += 1;
     }
     p
 }

@@ -6,14 +6,14 @@ ghost use Rattle.replies.specs.Replies.{refused_reply, said_reply, shown_reply, 
 ghost use Rattle.replies.specs.Replies.{reply as reply_numbers};
 
 use cases::{Person, Position, Step};
-use planner::{AdviceAnswer, AwayAnswer, PlanAnswer, PlanSays, VerdictAnswer};
+use planner::{AdviceAnswer, AwayAnswer, PlanAnswer, VerdictAnswer};
 use refusals::Refusal;
 use sets::People;
 
 // How many numbers an answer has.
 pub const NUMBERS: usize = 18;
 
-// What is said.
+// What is said, as the numbers that C reads in an answer: other-languages/rodcrank.h names them, so they are no enum.
 pub const LIMIT: u64 = 1;
 
 pub const YES: u64 = 2;
@@ -24,41 +24,39 @@ pub const NOBODY: u64 = 4;
 
 pub const NAMED: u64 = 5;
 
-pub fn plan_reply(answer: PlanAnswer) -> [u64; NUMBERS]
-    ensures { result ≡ plan_reply answer.says (persons answer.plan) }
+pub fn plan_reply(answer: Result<PlanAnswer, Refusal>) -> [u64; NUMBERS]
+    ensures { result ≡ plan_reply answer }
 {
-    let says = answer.says;
-    match says {
-        PlanSays::Refused(refusal) => refused(refusal),
-        PlanSays::Limit(trials) => said(LIMIT, trials),
-        PlanSays::No(trials) => said(NO, trials),
-        PlanSays::Yes(trials) => {
-            let plan = answer.plan;
+    match answer {
+        Err(refusal) => refused(refusal),
+        Ok(PlanAnswer::Limit(trials)) => said(LIMIT, trials),
+        Ok(PlanAnswer::No(trials)) => said(NO, trials),
+        Ok(PlanAnswer::Yes(plan, trials)) => {
             reply(YES, trials, People::none(), Step(0), Person(0), plan)
         }
     }
 }
 
-pub fn verdict_reply(answer: VerdictAnswer) -> [u64; NUMBERS]
+pub fn verdict_reply(answer: Result<VerdictAnswer, Refusal>) -> [u64; NUMBERS]
     ensures { result ≡ verdict_reply answer }
 {
     match answer {
-        VerdictAnswer::Refused(refusal) => refused(refusal),
-        VerdictAnswer::Limit(trials) => said(LIMIT, trials),
-        VerdictAnswer::Yes(trials) => said(YES, trials),
-        VerdictAnswer::No(shown, trials) => show(NO, trials, shown),
+        Err(refusal) => refused(refusal),
+        Ok(VerdictAnswer::Limit(trials)) => said(LIMIT, trials),
+        Ok(VerdictAnswer::Yes(trials)) => said(YES, trials),
+        Ok(VerdictAnswer::No(shown, trials)) => show(NO, trials, shown),
     }
 }
 
 // Advice on a step.
-pub fn advice_reply(step: Step, answer: AdviceAnswer) -> [u64; NUMBERS]
+pub fn advice_reply(step: Step, answer: Result<AdviceAnswer, Refusal>) -> [u64; NUMBERS]
     ensures { result ≡ advice_reply step.0 answer }
 {
     match answer {
-        AdviceAnswer::Refused(refusal) => refused(refusal),
-        AdviceAnswer::Limit(trials) => said(LIMIT, trials),
-        AdviceAnswer::Nobody(trials) => said(NOBODY, trials),
-        AdviceAnswer::Person(person, trials) => {
+        Err(refusal) => refused(refusal),
+        Ok(AdviceAnswer::Limit(trials)) => said(LIMIT, trials),
+        Ok(AdviceAnswer::Nobody(trials)) => said(NOBODY, trials),
+        Ok(AdviceAnswer::Person(person, trials)) => {
             reply(
                 NAMED,
                 trials,
@@ -71,14 +69,14 @@ pub fn advice_reply(step: Step, answer: AdviceAnswer) -> [u64; NUMBERS]
     }
 }
 
-pub fn away_reply(answer: AwayAnswer) -> [u64; NUMBERS]
+pub fn away_reply(answer: Result<AwayAnswer, Refusal>) -> [u64; NUMBERS]
     ensures { result ≡ away_reply answer }
 {
     match answer {
-        AwayAnswer::Refused(refusal) => refused(refusal),
-        AwayAnswer::Limit(trials) => said(LIMIT, trials),
-        AwayAnswer::Nobody(trials) => said(NOBODY, trials),
-        AwayAnswer::People(shown, trials) => show(NAMED, trials, shown),
+        Err(refusal) => refused(refusal),
+        Ok(AwayAnswer::Limit(trials)) => said(LIMIT, trials),
+        Ok(AwayAnswer::Nobody(trials)) => said(NOBODY, trials),
+        Ok(AwayAnswer::People(shown, trials)) => show(NAMED, trials, shown),
     }
 }
 

@@ -17,13 +17,11 @@ use Rattle.cases.specs.declared.Case.{Case}
 use Rattle.cases.specs.Case.{most_steps, people, steps}
 use Rattle.cases.specs.Chain.{advice_at, away_at}
 use Rattle.refusals.specs.declared.Refusal.{Refusal}
-use Rattle.refusals.specs.declared.Judged.{Judged}
-use Rattle.refusals.specs.declared.Judged.TheVariants.{Good, Refused}
-use Rattle.refusals.specs.Refusals.{refusal, judged_by, or_else}
+use Rattle.refusals.specs.Refusals.{Judged, Refused, refusal, judged_by, or_else}
 use Rattle.asking.specs.Asking.{position_check, absence_check, judged_question, judged_away}
 use Rattle.asking.proofs.Calls.{away-order, advice-order, question-good}
-use Rattle.planner.specs.declared.AdviceAnswer.TheVariants as advice
-use Rattle.planner.specs.Answers.{advice_given, away_given}
+use Rattle.std.specs.Prelude.{Ok, Err}
+use Rattle.planner.specs.Answers.{advice_answer, away_answer, given}
 use Rattle.planner.specs.Calls.{advice_call, away_call}
 use Rattle.planner.proofs.Answering.{few-steps}
 use Rattle.replies.specs.Replies.{refused_reply, advice_reply, away_reply}
@@ -43,13 +41,13 @@ front F x long p = ⊎_elim whole cut_off (eq-zero-or-pos (length p - most_steps
 module _ (c : Case) (t : ℕ) where
   -- what every position that is as long as any chain is refused by
   abbrev refusal_of_long : Judged → Refusal
-  refusal_of_long Good = refusal 13 (steps c)
-  refusal_of_long (Refused r) = r
+  refusal_of_long (Ok nothing) = refusal 13 (steps c)
+  refusal_of_long (Err r) = r
 
   long-judged : (j : Judged) → judged_question c t ≡ j → (q : List ℕ) → most_steps ≤ length q → judged_away c q t ≡ Refused (refusal_of_long j)
   unfolding position_check judged_by
-  long-judged (Refused r) e q h = away-order c q t ∙ ap (λ i. or_else i (judged_by (position_check c q ∷ []))) e
-  long-judged Good e q h =
+  long-judged (Err r) e q h = away-order c q t ∙ ap (λ i. or_else i (judged_by (position_check c q ∷ []))) e
+  long-judged (Ok nothing) e q h =
       away-order c q t
       ∙ ap (λ i. or_else i (judged_by (position_check c q ∷ []))) e
       ∙ ap (λ x. judged_by (x ∷ [])) (sym (pick-ge (length q) (steps c) _ _ (omega (arith, few-steps c (question-good c t e).0))))
@@ -57,7 +55,7 @@ module _ (c : Case) (t : ℕ) where
   module _ (l : ℕ) where
     away-told : (r : Refusal) (q : List ℕ) → judged_away c q t ≡ Refused r → away_reply (away_call c q t l) ≡ refused_reply r
     unfolding away_call
-    away-told r q e = ap (λ j. away_reply (away_given j (cut l (away_at c t q)))) e
+    away-told r q e = ap (λ j. away_reply (given j (away_answer (cut l (away_at c t q))))) e
 
     pub away-front : (p : List ℕ) → away_reply (away_call c (take most_steps p) t l) ≡ away_reply (away_call c p t l)
     away-front =
@@ -65,14 +63,14 @@ module _ (c : Case) (t : ℕ) where
         front (λ q. away_reply (away_call c q t l)) (refused_reply (refusal_of_long j)) (λ q h. away-told (refusal_of_long j) q (long-judged j refl q h))
 
   module _ (A l : ℕ) where
-    either-told : (n : ℕ) (r : Refusal) (b : Bool) → advice_reply n (pick b (advice.Refused r) (advice.Refused r)) ≡ refused_reply r
+    either-told : (n : ℕ) (r : Refusal) (b : Bool) → advice_reply n (pick b (Err r) (Err r)) ≡ refused_reply r
     either-told n r true = refl
     either-told n r false = refl
 
     advice-told : (r : Refusal) (q : List ℕ) → judged_away c q t ≡ Refused r → advice_on c q t A l ≡ refused_reply r
     unfolding advised advice_call
     advice-told r q e =
-        ap₂ (λ j k. advice_reply (length q) (pick (ltb A (2 ^ width)) (advice_given j (cut l (advice_at c t A q))) (advice.Refused (unknown_absent k))))
+        ap₂ (λ j k. advice_reply (length q) (pick (ltb A (2 ^ width)) (given j (advice_answer (cut l (advice_at c t A q)))) (Err (unknown_absent k))))
         (advice-order c q t A ∙ ap (λ i. or_else i (judged_by (absence_check (people c) t A ∷ []))) e)
         e
         ∙ either-told (length q) r (ltb A (2 ^ width))

@@ -1,7 +1,9 @@
 -- A call's answer from what was read of its file: a refused file's refusal, or what is said of the case that the file holds.
 use mathlib.Core.Path.{◌≡◌, refl, sym, ap, ap₂, ◌∙◌}
-use mathlib.Core.Bool.{Bool, true, false, true≢false}
-use mathlib.Core.Option.{Option, none, some, some-injective, some-ne-none, none-ne-some}
+use mathlib.Core.Bool.{Bool, true, false}
+use Rattle.std.specs.Prelude.{Result, Ok, Err}
+use Rattle.std.specs.Result.{result_and}
+use mathlib.Core.Option.{none, some, some-injective, some-ne-none, none-ne-some}
 use mathlib.Core.List.{List}
 use Prim.Native.Nat.{ℕ, ◌^◌}
 use lib.Dec.{ltb}
@@ -9,7 +11,7 @@ use lib.ListN.{take}
 use Rattle.sets.specs.Lists.{pick, only_if}
 use Rattle.sets.specs.Stored.{width, number}
 use Rattle.sets.specs.declared.People.{People}
-use Rattle.games.specs.Limit.{Ended, limit, ended, Answer, cut}
+use Rattle.games.specs.Limit.{cut}
 use Rattle.cases.specs.Case.{empty_case, most_steps}
 use Rattle.cases.specs.declared.Case.{Case}
 use Rattle.cases.specs.declared.Position.{Position}
@@ -17,144 +19,135 @@ use Rattle.cases.specs.Chain.{away_at}
 use Rattle.cases.specs.Positions.{persons}
 use Rattle.cases.proofs.Positions.{persons-length}
 use Rattle.refusals.specs.declared.Refusal.{Refusal}
-use Rattle.refusals.specs.declared.Judged.{Judged}
-use Rattle.refusals.specs.declared.Judged.TheVariants.{Good, Refused}
-use Rattle.refusals.specs.Refusals.{refusal}
+use Rattle.refusals.specs.Refusals.{Judged, Good, Refused, refusal}
 use Rattle.refusals.specs.CaseChecks.{judged_case}
 use Rattle.layout.specs.Layout.{case_of}
 use Rattle.files.specs.declared.FileRead.{FileRead}
 use Rattle.files.specs.Checks.{judged_file}
 use Rattle.files.specs.Reading.{read_of}
 use Rattle.files.specs.Reading as reading
-use Rattle.files.proofs.Nothing.{read-case-good}
+use Rattle.files.proofs.Nothing.{held-good}
 use Rattle.asking.specs.Asking.{judged_away}
 use Rattle.planner.specs.declared.AdviceAnswer.{AdviceAnswer}
-use Rattle.planner.specs.declared.AdviceAnswer.TheVariants as advice
 use Rattle.planner.specs.declared.AwayAnswer.{AwayAnswer}
-use Rattle.planner.specs.declared.AwayAnswer.TheVariants as away
 use Rattle.planner.specs.declared.PlanAnswer.{PlanAnswer}
 use Rattle.planner.specs.declared.Question.{Question}
 use Rattle.planner.specs.declared.VerdictAnswer.{VerdictAnswer}
-use Rattle.planner.specs.Answers.{away_ended, away_answer, away_given}
+use Rattle.planner.specs.Answers.{away_answer, given}
 use Rattle.planner.specs.Calls.{plan_call, question_call, advice_call, away_call}
-use Rattle.replies.specs.Replies.{refused_reply, verdict_reply, advice_reply, away_reply}
+use Rattle.replies.specs.Replies.{refused_reply, plan_reply, verdict_reply, advice_reply, away_reply}
 use Rattle.replies.specs.Pairs.{persons_in}
-use Rattle.rodcrank.specs.Calls.{if_good, plan_answered, plan_file, unknown_absent, advised, advice_on, advice_file, away_file}
+use Rattle.rodcrank.specs.Calls.{if_good, plan_file, unknown_absent, advised, advice_on, advice_file, away_file}
 use Rattle.rodcrank.proofs.Fronts.{advice-front, away-front}
 
--- ---- From a file
-
-module _ (f : List ℕ) {j : Judged} (e : j ≡ judged_file f) where
-  pub refused-told : (answer : List ℕ) {x : Refusal} {o : List ℕ} → j ≡ Refused x → o ≡ refused_reply x → o ≡ if_good (judged_file f) answer
-  refused-told answer h g = g ∙ sym (ap (λ k. if_good k answer) (sym e ∙ h))
-
-  pub good-told : (answer : List ℕ) {o : List ℕ} → j ≡ Good → o ≡ answer → o ≡ if_good (judged_file f) answer
-  good-told answer h g = g ∙ sym (ap (λ k. if_good k answer) (sym e ∙ h))
+-- ---- The case of a file
 
 module _ (f : List ℕ) {r : FileRead} (e : r ≡ read_of f) where
-  pub judged-read : r.judged ≡ judged_file f
+  judged-read : r.judged ≡ judged_file f
   unfolding read_of
   judged-read = ap (λ (x : FileRead). x.judged) e
 
-  held-read : r.judged ≡ Good → r.held ≡ case_of f
+  -- a refused file's refusal
+  pub refused-case : {x : Refusal} → r.judged ≡ Refused x → Err x ≡ given (judged_file f) (case_of f)
+  refused-case h = ap (λ j. given j (case_of f)) (sym h ∙ judged-read)
+
+  -- the case that a good file holds
+  pub good-case : r.judged ≡ Good → Ok r.held ≡ given (judged_file f) (case_of f)
   unfolding read_of
-  held-read h = ap (λ (x : FileRead). x.held) e ∙ ap (λ j. reading.if_good j (case_of f) empty_case) (sym judged-read ∙ h)
+  good-case h =
+      let g : judged_file f ≡ Good = sym judged-read ∙ h in
+      ap₂ given (sym g) (ap (λ (x : FileRead). x.held) e ∙ ap (λ j. reading.if_good j (case_of f) empty_case) g)
 
-  -- the case that was read is good
-  pub case-good : r.judged ≡ Good → judged_case r.held ≡ Good
-  case-good h = ap (λ (x : FileRead). judged_case x.held) e ∙ read-case-good f (sym judged-read ∙ h)
+-- ---- What is asked of it
 
-  -- what is said of the case that was read
-  pub case-told : (F : Case → List ℕ) {o : List ℕ} → r.judged ≡ Good → o ≡ F r.held → o ≡ if_good (judged_file f) (F (case_of f))
-  case-told F h g = good-told f judged-read (F (case_of f)) h (g ∙ ap F (held-read h))
+module _ (f : List ℕ) where
+  -- a case that a file gives is the one that it holds, and is good
+  pub case-good : {c : Case} → Ok c ≡ given (judged_file f) (case_of f) → judged_case c ≡ Good
+  case-good {c} e = go (judged_file f) refl e
+    where
+      go : (j : Judged) → judged_file f ≡ j → Ok c ≡ given j (case_of f) → judged_case c ≡ Good
+      go (Ok nothing) g h = let same : c ≡ case_of f = cc in ap judged_case same ∙ held-good f g
+      go (Err r) g h = cc
 
-  pub plan-told : (l : ℕ) {a : PlanAnswer} {o : List ℕ} → r.judged ≡ Good → a ≡ plan_call r.held l → o ≡ plan_answered a → o ≡ plan_file f l
+  module _ {A : Type 0} where
+    pub asked-good : (F : Case → Result A Refusal) {c : Case} → Ok c ≡ given (judged_file f) (case_of f) → F c ≡ result_and (judged_file f) (F (case_of f))
+    asked-good F {c} e = go (judged_file f) e
+      where
+        go : (j : Judged) → Ok c ≡ given j (case_of f) → F c ≡ result_and j (F (case_of f))
+        go (Ok nothing) h = let same : c ≡ case_of f = cc in ap F same
+        go (Err r) h = cc
+
+    -- an answer as numbers, of which a refusal's are `refused_reply`
+    pub told : (R : Result A Refusal → List ℕ) → ((x : Refusal) → R (Err x) ≡ refused_reply x) → (b : Result A Refusal) {a : Result A Refusal} {o : List ℕ}
+        → a ≡ result_and (judged_file f) b → o ≡ R a → o ≡ if_good (judged_file f) (R b)
+    told R at_err b e h = h ∙ ap R e ∙ go (judged_file f)
+      where
+        go : (j : Judged) → R (result_and j b) ≡ if_good j (R b)
+        go (Ok nothing) = refl
+        go (Err x) = at_err x
+
+  pub plan-told : (l : ℕ) {a : Result PlanAnswer Refusal} {o : List ℕ} → a ≡ result_and (judged_file f) (plan_call (case_of f) l) → o ≡ plan_reply a → o ≡ plan_file f l
   unfolding plan_file
-  plan-told l h g i = case-told (λ c. plan_answered (plan_call c l)) h (i ∙ ap plan_answered g)
+  plan-told l e h = told plan_reply (λ x. refl) (plan_call (case_of f) l) e h
 
-  pub question-told : (q : Question) (t l : ℕ) {a : VerdictAnswer} {o : List ℕ} → r.judged ≡ Good → a ≡ question_call q r.held t l
+  pub question-told : (q : Question) (t l : ℕ) {a : Result VerdictAnswer Refusal} {o : List ℕ} → a ≡ result_and (judged_file f) (question_call q (case_of f) t l)
       → o ≡ verdict_reply a → o ≡ if_good (judged_file f) (verdict_reply (question_call q (case_of f) t l))
-  question-told q t l h g i = case-told (λ c. verdict_reply (question_call q c t l)) h (i ∙ ap verdict_reply g)
+  question-told q t l e h = told verdict_reply (λ x. refl) (question_call q (case_of f) t l) e h
 
   -- ---- Advice and away: the first 8 entries of a position stand for all of it
 
-  module _ (b : List ℕ) (t : ℕ) {k : List ℕ} (entries : k ≡ take most_steps (persons_in b)) where
-    pub advice-told : (A l : ℕ) {o : List ℕ} → r.judged ≡ Good → o ≡ advice_on r.held k t A l → o ≡ advice_file f b t A l
+  module _ (b : List ℕ) (t : ℕ) (p : Position) (entries : persons p ≡ take most_steps (persons_in b)) where
+    pub advice-told : (A l : ℕ) {a : Result AdviceAnswer Refusal} {o : List ℕ} → a ≡ result_and (judged_file f) (advised (case_of f) (persons p) t A l)
+        → o ≡ advice_reply p.len a → o ≡ advice_file f b t A l
     unfolding advice_file
-    advice-told A l h g =
-        case-told (λ c. advice_on c (persons_in b) t A l) h
-        (g ∙ ap (λ x. advice_on r.held x t A l) entries ∙ advice-front r.held t A l (persons_in b))
+    advice-told A l e h =
+        told (advice_reply p.len) (λ x. refl) (advised (case_of f) (persons p) t A l) e h
+        ∙ ap (if_good (judged_file f))
+        (ap (λ n. advice_reply n (advised (case_of f) (persons p) t A l)) (sym (persons-length p))
+        ∙ ap (λ x. advice_on (case_of f) x t A l) entries
+        ∙ advice-front (case_of f) t A l (persons_in b))
 
-    pub away-told : (l : ℕ) {a : AwayAnswer} {o : List ℕ} → r.judged ≡ Good → a ≡ away_call r.held k t l → o ≡ away_reply a → o ≡ away_file f b t l
+    pub away-told : (l : ℕ) {a : Result AwayAnswer Refusal} {o : List ℕ} → a ≡ result_and (judged_file f) (away_call (case_of f) (persons p) t l)
+        → o ≡ away_reply a → o ≡ away_file f b t l
     unfolding away_file
-    away-told l h g i =
-        case-told (λ c. away_reply (away_call c (persons_in b) t l)) h
-        (i ∙ ap away_reply g ∙ ap (λ x. away_reply (away_call r.held x t l)) entries ∙ away-front r.held t l (persons_in b))
+    away-told l e h =
+        told away_reply (λ x. refl) (away_call (case_of f) (persons p) t l) e h
+        ∙ ap (if_good (judged_file f)) (ap (λ x. away_reply (away_call (case_of f) x t l)) entries ∙ away-front (case_of f) t l (persons_in b))
 
 -- ---- Advice with absentees of any number
 
-module _ (c : Case) (p : Position) (t l A : ℕ) where
-  asked : (b : Bool) → ltb A (2 ^ width) ≡ b → advice_on c (persons p) t A l
-      ≡ advice_reply p.len (pick b (advice_call c (persons p) t A l) (advice.Refused (unknown_absent (judged_away c (persons p) t))))
+module _ (c : Case) (p : List ℕ) (t l A : ℕ) where
+  pub set_told : (s : People) {a : Result AdviceAnswer Refusal} → some (number s) ≡ only_if (ltb A (2 ^ width)) A → a ≡ advice_call c p t (number s) l → a ≡ advised c p t A l
   unfolding advised
-  asked b e =
-      ap₂ (λ n x. advice_reply n (pick x (advice_call c (persons p) t A l) (advice.Refused (unknown_absent (judged_away c (persons p) t))))) (persons-length p) e
+  set_told s h g = g ∙ go (ltb A (2 ^ width)) h
+    where
+      go : (b : Bool) → some (number s) ≡ only_if b A → advice_call c p t (number s) l ≡ pick b (advice_call c p t A l) (Err (unknown_absent (judged_away c p t)))
+      go true k = ap (λ x. advice_call c p t x l) (some-injective (number s) A k)
+      go false k = absurd (some-ne-none (number s) k)
 
-  fits_in : (s : People) (b : Bool) → ltb A (2 ^ width) ≡ b → some (number s) ≡ only_if b A
-      → advice_reply p.len (advice_call c (persons p) t (number s) l) ≡ advice_on c (persons p) t A l
-  fits_in s true e h =
-      ap (λ x. advice_reply p.len (advice_call c (persons p) t x l)) (some-injective (number s) A h) ∙ sym (asked true e)
-  fits_in s false e h = absurd (some-ne-none (number s) h)
-
-  pub set_told : (s : People) {a : AdviceAnswer} {o : List ℕ} → some (number s) ≡ only_if (ltb A (2 ^ width)) A
-      → a ≡ advice_call c (persons p) t (number s) l → o ≡ advice_reply p.len a → o ≡ advice_on c (persons p) t A l
-  set_told s h g i = i ∙ ap (advice_reply p.len) g ∙ fits_in s (ltb A (2 ^ width)) refl h
-
-  past : (b : Bool) → ltb A (2 ^ width) ≡ b → none ≡ only_if b A
-      → refused_reply (unknown_absent (judged_away c (persons p) t)) ≡ advice_on c (persons p) t A l
-  past true e h = absurd (none-ne-some A h)
-  past false e h = sym (asked false e)
-
-  pub past-told : {x : Refusal} {o : List ℕ} → none ≡ only_if (ltb A (2 ^ width)) A → x ≡ unknown_absent (judged_away c (persons p) t)
-      → o ≡ refused_reply x → o ≡ advice_on c (persons p) t A l
-  past-told h g i = i ∙ ap refused_reply g ∙ past (ltb A (2 ^ width)) refl h
+  pub past-told : {x : Refusal} → none ≡ only_if (ltb A (2 ^ width)) A → x ≡ unknown_absent (judged_away c p t) → Err x ≡ advised c p t A l
+  unfolding advised
+  past-told h g = ap Err g ∙ go (ltb A (2 ^ width)) h
+    where
+      go : (b : Bool) → none ≡ only_if b A → Err (unknown_absent (judged_away c p t)) ≡ pick b (advice_call c p t A l) (Err (unknown_absent (judged_away c p t)))
+      go true k = absurd (none-ne-some A k)
+      go false k = refl
 
 -- ---- What away is refused by, asked with no trial allowed
 
--- is an answer of away no refusal?
-abbrev pub answers : AwayAnswer → Bool
-answers (away.Refused r) = false
-answers (away.Limit n) = true
-answers (away.Nobody n) = true
-answers (away.People s n) = true
-
-abbrev refusal_in : AwayAnswer → Refusal
-refusal_in (away.Refused r) = r
-refusal_in (away.Limit n) = refusal 0 0
-refusal_in (away.Nobody n) = refusal 0 0
-refusal_in (away.People s n) = refusal 0 0
-
-ended-answers : (a : Answer (Option ℕ)) → answers (away_answer a) ≡ true
-ended-answers a = go a.out
-  where
-    go : (o : Ended (Option ℕ)) → answers (away_ended o a.count) ≡ true
-    go limit = refl
-    go (ended none) = refl
-    go (ended (some A)) = refl
-
 module _ (c : Case) (p : List ℕ) (t : ℕ) where
-  pub refused-away : {r : Refusal} {a : AwayAnswer} → a ≡ away_call c p t 0 → a ≡ away.Refused r → r ≡ unknown_absent (judged_away c p t)
+  pub refused-away : {r : Refusal} → Err r ≡ away_call c p t 0 → r ≡ unknown_absent (judged_away c p t)
   unfolding away_call
-  refused-away {r} e g = go (judged_away c p t) (sym e ∙ g)
+  refused-away {r} e = go (judged_away c p t) e
     where
-      go : (j : Judged) → away_given j (cut 0 (away_at c t p)) ≡ away.Refused r → r ≡ unknown_absent j
-      go Good h = absurd (true≢false (sym (ended-answers (cut 0 (away_at c t p))) ∙ ap answers h))
-      go (Refused x) h = sym (ap refusal_in h)
+      go : (j : Judged) → Err r ≡ given j (away_answer (cut 0 (away_at c t p))) → r ≡ unknown_absent j
+      go (Ok nothing) h = cc
+      go (Err x) h = cc
 
-  pub answered-away : {a : AwayAnswer} → a ≡ away_call c p t 0 → answers a ≡ true → refusal 14 0 ≡ unknown_absent (judged_away c p t)
+  pub answered-away : {a : AwayAnswer} → Ok a ≡ away_call c p t 0 → refusal 14 0 ≡ unknown_absent (judged_away c p t)
   unfolding away_call
-  answered-away e g = go (judged_away c p t) (sym (ap answers e) ∙ g)
+  answered-away {a} e = go (judged_away c p t) e
     where
-      go : (j : Judged) → answers (away_given j (cut 0 (away_at c t p))) ≡ true → refusal 14 0 ≡ unknown_absent j
-      go Good h = refl
-      go (Refused x) h = absurd (true≢false (sym h))
+      go : (j : Judged) → Ok a ≡ given j (away_answer (cut 0 (away_at c t p))) → refusal 14 0 ≡ unknown_absent j
+      go (Ok nothing) h = refl
+      go (Err x) h = cc

@@ -1,38 +1,30 @@
 -- What each exported call answers for a file: the file's refusal, or the planner's answer for the case that the file holds.
-use Rattle.std.specs.Prelude.{List, ◌++◌, ℕ, ◌^◌, leb, ltb, length, drop}
+use Rattle.std.specs.Prelude.{List, ◌++◌, ℕ, ◌^◌, Result, Ok, Err, leb, ltb, length, drop}
 use Rattle.sets.specs.Lists.{pick}
 use Rattle.sets.specs.Stored.{width}
 use Rattle.cases.specs.declared.Case.{Case}
-use Rattle.cases.specs.Positions.{persons}
 use Rattle.refusals.specs.declared.Refusal.{Refusal}
-use Rattle.refusals.specs.declared.Judged.{Judged}
-use Rattle.refusals.specs.declared.Judged.TheVariants.{Good, Refused}
-use Rattle.refusals.specs.Refusals.{refusal}
+use Rattle.refusals.specs.Refusals.{Judged, refusal}
 use Rattle.layout.specs.Layout.{case_of}
 use Rattle.files.specs.Checks.{judged_file}
 use Rattle.asking.specs.Asking.{judged_away}
-use Rattle.planner.specs.declared.PlanAnswer.{PlanAnswer}
 use Rattle.planner.specs.declared.AdviceAnswer.{AdviceAnswer}
-use Rattle.planner.specs.declared.AdviceAnswer.TheVariants as advice
 use Rattle.planner.specs.Calls.{plan_call, static_call, decremental_call, one_shot_call, dynamic_call, advice_call, away_call}
 use Rattle.replies.specs.Replies.{says_yes, refused_reply, said_reply, plan_reply, verdict_reply, advice_reply, away_reply}
 use Rattle.replies.specs.Pairs.{persons_in}
 
 -- an answer where nothing is refused, else the refusal
 abbrev pub if_good : Judged → List ℕ → List ℕ
-if_good Good answer = answer
-if_good (Refused r) answer = refused_reply r
+if_good (Ok nothing) answer = answer
+if_good (Err r) answer = refused_reply r
 
 -- Judge: yes, the file is good.
 unfoldable pub judge_file : List ℕ → List ℕ
 judge_file f = if_good (judged_file f) (said_reply says_yes 0)
 
-abbrev pub plan_answered : PlanAnswer → List ℕ
-plan_answered a = plan_reply a.says (persons a.plan)
-
 -- Plan, and the verdicts with absence number t, under limit l.
 unfoldable pub plan_file : List ℕ → ℕ → List ℕ
-plan_file f l = if_good (judged_file f) (plan_answered (plan_call (case_of f) l))
+plan_file f l = if_good (judged_file f) (plan_reply (plan_call (case_of f) l))
 
 unfoldable pub static_file : List ℕ → ℕ → ℕ → List ℕ
 static_file f t l = if_good (judged_file f) (verdict_reply (static_call (case_of f) t l))
@@ -48,12 +40,12 @@ dynamic_file f t l = if_good (judged_file f) (verdict_reply (dynamic_call (case_
 
 -- what advice with an unknown absentee is refused by: what away is, else 14
 abbrev pub unknown_absent : Judged → Refusal
-unknown_absent Good = refusal 14 0
-unknown_absent (Refused r) = r
+unknown_absent (Ok nothing) = refusal 14 0
+unknown_absent (Err r) = r
 
 -- Advice at position p with A absent. Somebody past the width is unknown.
-unfoldable pub advised : Case → List ℕ → ℕ → ℕ → ℕ → AdviceAnswer
-advised c p t A l = pick (ltb A (2 ^ width)) (advice_call c p t A l) (advice.Refused (unknown_absent (judged_away c p t)))
+unfoldable pub advised : Case → List ℕ → ℕ → ℕ → ℕ → Result AdviceAnswer Refusal
+advised c p t A l = pick (ltb A (2 ^ width)) (advice_call c p t A l) (Err (unknown_absent (judged_away c p t)))
 
 -- its answer: the step advised on is the one after the position's entries
 abbrev pub advice_on : Case → List ℕ → ℕ → ℕ → ℕ → List ℕ

@@ -5,21 +5,28 @@
 #![tactic(auto)]
 
 ghost use Rattle.std.specs.Prelude.{◌≡◌, ◌≤◌, length, take};
+ghost use Rattle.std.specs.Result.{result_and, result_map_both};
 ghost use Rattle.sets.specs.Stored.{from_words};
 ghost use Rattle.cases.specs.Positions.{persons};
-ghost use Rattle.refusals.specs.Refusals.{refusal};
-ghost use Rattle.refusals.specs.CaseChecks.{judged_case};
+ghost use Rattle.layout.specs.Layout.{case_of};
+ghost use Rattle.files.specs.Checks.{judged_file};
 ghost use Rattle.asking.specs.Asking.{judged_away};
+ghost use Rattle.planner.specs.Answers.{given};
+ghost use Rattle.planner.specs.Calls.{plan_call, question_call, away_call};
 ghost use Rattle.telling.specs.Telling.{text_of};
-ghost use Rattle.rodcrank.specs.Calls.{judge_file, plan_file, static_file, decremental_file, one_shot_file, dynamic_file, unknown_absent, advice_on, advice_file, away_file, filled_with};
+ghost use Rattle.rodcrank.specs.Calls.{judge_file, plan_file, static_file, decremental_file, one_shot_file, dynamic_file, unknown_absent, advised, advice_file, away_file, filled_with};
 
-use cases::{Case, Position, Step};
+use cases::{Position, Step};
 use files::{judge, read};
-use planner::{AwayAnswer, Question, advise_good, ask_good, away_good, plan_good};
-use refusals::{Judged, Refusal};
+use judging::GoodCase;
+use planner::{
+    AdviceAnswer, AwayAnswer, PlanAnswer, Question, VerdictAnswer, advise_good, ask_good,
+    away_good, plan_good,
+};
+use refusals::Refusal;
 use replies::{advice_reply, away_reply, plan_reply, position_of, refused, said, verdict_reply};
 pub use replies::{LIMIT, NAMED, NO, NOBODY, NUMBERS, YES};
-use sets::{People, Wide};
+use sets::People;
 use telling::{Text, tell};
 
 // Is the file good? Yes, or refused by 1 to 11.
@@ -27,14 +34,10 @@ use telling::{Text, tell};
 pub extern "C" fn rodcrank_judge(file: &[u8], out: &mut [u64; NUMBERS])
     ensures { out.new ≡ judge_file file.now }
 {
-    match judge(file) {
-        Judged::Refused(refusal) => {
-            *out = refused(refusal);
-        }
-        Judged::Good => {
-            *out = said(YES, 0);
-        }
-    }
+    *out = match judge(file) {
+        Ok(()) => said(YES, 0),
+        Err(refusal) => refused(refusal),
+    };
 }
 
 // Is there a plan? Yes with the first plan, no, or "limit"; or refused by 1 to 11.
@@ -42,16 +45,7 @@ pub extern "C" fn rodcrank_judge(file: &[u8], out: &mut [u64; NUMBERS])
 pub extern "C" fn rodcrank_plan(file: &[u8], limit: u32, out: &mut [u64; NUMBERS])
     ensures { out.new ≡ plan_file file.now limit }
 {
-    let got = read(file);
-    let judged = got.judged;
-    match judged {
-        Judged::Refused(refusal) => {
-            *out = refused(refusal);
-        }
-        Judged::Good => {
-            *out = plan_reply(plan_good(got.held, limit));
-        }
-    }
+    *out = plan_reply(ask_plan(file, limit));
 }
 
 // The static verdict: yes, no with the set shown, or "limit"; or refused by 1 to 12.
@@ -59,16 +53,7 @@ pub extern "C" fn rodcrank_plan(file: &[u8], limit: u32, out: &mut [u64; NUMBERS
 pub extern "C" fn rodcrank_static(file: &[u8], t: u32, limit: u32, out: &mut [u64; NUMBERS])
     ensures { out.new ≡ static_file file.now t limit }
 {
-    let got = read(file);
-    let judged = got.judged;
-    match judged {
-        Judged::Refused(refusal) => {
-            *out = refused(refusal);
-        }
-        Judged::Good => {
-            *out = verdict_reply(ask_good(Question::Static, got.held, t, limit));
-        }
-    }
+    *out = verdict_reply(ask(Question::Static, file, t, limit));
 }
 
 // The decremental verdict, in the same way.
@@ -76,16 +61,7 @@ pub extern "C" fn rodcrank_static(file: &[u8], t: u32, limit: u32, out: &mut [u6
 pub extern "C" fn rodcrank_decremental(file: &[u8], t: u32, limit: u32, out: &mut [u64; NUMBERS])
     ensures { out.new ≡ decremental_file file.now t limit }
 {
-    let got = read(file);
-    let judged = got.judged;
-    match judged {
-        Judged::Refused(refusal) => {
-            *out = refused(refusal);
-        }
-        Judged::Good => {
-            *out = verdict_reply(ask_good(Question::Decremental, got.held, t, limit));
-        }
-    }
+    *out = verdict_reply(ask(Question::Decremental, file, t, limit));
 }
 
 // The one-shot verdict, in the same way.
@@ -93,16 +69,7 @@ pub extern "C" fn rodcrank_decremental(file: &[u8], t: u32, limit: u32, out: &mu
 pub extern "C" fn rodcrank_one_shot(file: &[u8], t: u32, limit: u32, out: &mut [u64; NUMBERS])
     ensures { out.new ≡ one_shot_file file.now t limit }
 {
-    let got = read(file);
-    let judged = got.judged;
-    match judged {
-        Judged::Refused(refusal) => {
-            *out = refused(refusal);
-        }
-        Judged::Good => {
-            *out = verdict_reply(ask_good(Question::OneShot, got.held, t, limit));
-        }
-    }
+    *out = verdict_reply(ask(Question::OneShot, file, t, limit));
 }
 
 // The dynamic verdict, in the same way.
@@ -110,16 +77,7 @@ pub extern "C" fn rodcrank_one_shot(file: &[u8], t: u32, limit: u32, out: &mut [
 pub extern "C" fn rodcrank_dynamic(file: &[u8], t: u32, limit: u32, out: &mut [u64; NUMBERS])
     ensures { out.new ≡ dynamic_file file.now t limit }
 {
-    let got = read(file);
-    let judged = got.judged;
-    match judged {
-        Judged::Refused(refusal) => {
-            *out = refused(refusal);
-        }
-        Judged::Good => {
-            *out = verdict_reply(ask_good(Question::Dynamic, got.held, t, limit));
-        }
-    }
+    *out = verdict_reply(ask(Question::Dynamic, file, t, limit));
 }
 
 // Whom to put into the next step after a position, given in pairs of step and person, with some people absent in this round, given as the low and
@@ -136,17 +94,8 @@ pub extern "C" fn rodcrank_advice(
 )
     ensures { out.new ≡ advice_file file.now position.now t (from_words low high) limit }
 {
-    let got = read(file);
-    let judged = got.judged;
-    match judged {
-        Judged::Refused(refusal) => {
-            *out = refused(refusal);
-        }
-        Judged::Good => {
-            let p = position_of(position);
-            *out = advise(got.held, p, t, low, high, limit);
-        }
-    }
+    let p = position_of(position);
+    *out = advice_reply(Step(p.len), advise(file, p, t, low, high, limit));
 }
 
 // Whom to keep away before the next step after a position, given in pairs: people named, nobody, or "limit"; or refused by 1 to 13.
@@ -160,17 +109,8 @@ pub extern "C" fn rodcrank_away(
 )
     ensures { out.new ≡ away_file file.now position.now t limit }
 {
-    let got = read(file);
-    let judged = got.judged;
-    match judged {
-        Judged::Refused(refusal) => {
-            *out = refused(refusal);
-        }
-        Judged::Good => {
-            let p = position_of(position);
-            *out = away_reply(away_good(got.held, p, t, limit));
-        }
-    }
+    let p = position_of(position);
+    *out = away_reply(keep_away(file, p, t, limit));
 }
 
 // The text of the program `verdicts` for its input: t (2 bytes), limit (4 bytes) and a file. Returns how many bytes the text has; where the buffer
@@ -185,38 +125,65 @@ pub extern "C" fn rodcrank_verdicts(input: &[u8], buffer: &mut [u8]) -> usize
     text.len
 }
 
-// Advice where the absentees fit into a set; somebody past the width is unknown.
-fn advise(case: Case, p: Position, t: u32, low: u64, high: u64, limit: u32) -> [u64; NUMBERS]
-    requires { judged_case case ≡ Judged.Good }
-    ensures { result ≡ advice_on case (persons p) t (from_words low high) limit }
+// The case of a good file.
+fn good_case(file: &[u8]) -> Result<GoodCase, Refusal>
+    ensures { result_map_both (λ good. good.case) (λ refusal. refusal) result ≡ given (judged_file file.now) (case_of file.now) }
 {
+    let got = read(file);
+    got.judged?;
+    Ok(GoodCase { case: got.held })
+}
+
+// The plan of a file's case.
+fn ask_plan(file: &[u8], limit: u32) -> Result<PlanAnswer, Refusal>
+    ensures { result ≡ result_and (judged_file file.now) (plan_call (case_of file.now) limit) }
+{
+    plan_good(good_case(file)?, limit)
+}
+
+// One of the questions about absence.
+fn ask(question: Question, file: &[u8], t: u32, limit: u32) -> Result<VerdictAnswer, Refusal>
+    ensures { result ≡ result_and (judged_file file.now) (question_call question (case_of file.now) t limit) }
+{
+    ask_good(question, good_case(file)?, t, limit)
+}
+
+// Advice where the absentees fit into a set; somebody past the width is unknown.
+fn advise(
+    file: &[u8],
+    p: Position,
+    t: u32,
+    low: u64,
+    high: u64,
+    limit: u32,
+) -> Result<AdviceAnswer, Refusal>
+    ensures { result ≡ result_and (judged_file file.now) (advised (case_of file.now) (persons p) t (from_words low high) limit) }
+{
+    let good = good_case(file)?;
     match People::from_words(low, high) {
-        Wide::Set(absent) => advice_reply(Step(p.len), advise_good(case, p, t, absent, limit)),
-        Wide::Past => refused(unknown_absent(case, p, t)),
+        Some(absent) => advise_good(good, p, t, absent, limit),
+        None => Err(unknown_absent(good, p, t)),
     }
 }
 
 // The refusal of advice with an unknown absentee: 14, unless something is met that comes before it. That is what away is refused by; no trial is made.
-fn unknown_absent(case: Case, p: Position, t: u32) -> Refusal
-    requires { judged_case case ≡ Judged.Good }
-    ensures { result ≡ unknown_absent (judged_away case (persons p) t) }
+fn unknown_absent(good: GoodCase, p: Position, t: u32) -> Refusal
+    ensures { result ≡ unknown_absent (judged_away good.case (persons p) t) }
 {
-    match away_good(case, p, t, 0) {
-        AwayAnswer::Refused(refusal) => refusal,
-        AwayAnswer::Limit(_) => names_unknown(),
-        AwayAnswer::Nobody(_) => names_unknown(),
-        AwayAnswer::People(_, _) => names_unknown(),
+    match away_good(good, p, t, 0) {
+        Ok(_) => Refusal {
+            number: 14,
+            place: 0,
+        },
+        Err(refusal) => refusal,
     }
 }
 
-// An absence set names an unknown person.
-fn names_unknown() -> Refusal
-    ensures { result ≡ refusal 14 0 }
+// Whom to keep away.
+fn keep_away(file: &[u8], p: Position, t: u32, limit: u32) -> Result<AwayAnswer, Refusal>
+    ensures { result ≡ result_and (judged_file file.now) (away_call (case_of file.now) (persons p) t limit) }
 {
-    Refusal {
-        number: 14,
-        place: 0,
-    }
+    away_good(good_case(file)?, p, t, limit)
 }
 
 // Puts a text into a buffer, where it fits.
@@ -225,21 +192,9 @@ fn put_text(text: Text, buffer: &mut [u8])
     ensures { buffer.new ≡ filled_with (take text.len text.bytes) buffer.old }
 {
     let n = text.len;
-    let bytes = text.bytes;
     if buffer.len() < n {
         return;
     }
-    copy(&bytes[..n], &mut buffer[..n]);
-}
-
-// Copies bytes to as many bytes.
-fn copy(from: &[u8], to: &mut [u8])
-    requires { length to.old ≡ length from.now }
-    ensures { to.new ≡ from.now }
-{
-    let mut i = 0;
-    while i < from.len() {
-        to[i] = from[i];
-        i += 1;
-    }
+    let bytes = text.bytes;
+    buffer[..n].copy_from_slice(&bytes[..n]);
 }

@@ -6,10 +6,9 @@ use Rattle.games.specs.Limit.{cut}
 use Rattle.cases.specs.declared.Case.{Case}
 use Rattle.cases.specs.Chain.{plan_of}
 use Rattle.cases.specs.Case.{empty_case}
-use Rattle.refusals.specs.declared.Judged.{Judged}
-use Rattle.refusals.specs.declared.Judged.TheVariants.{Good, Refused}
+use Rattle.std.specs.Prelude.{Ok, Err}
 use Rattle.refusals.specs.declared.Refusal.{Refusal}
-use Rattle.refusals.specs.Refusals.{judged_by, or_else}
+use Rattle.refusals.specs.Refusals.{Judged, Good, Refused, judged_by, or_else}
 use Rattle.refusals.specs.CaseChecks.{judged_case}
 use Rattle.refusals.proofs.Order.{good-refused}
 use Rattle.layout.specs.Layout.{case_of}
@@ -25,8 +24,8 @@ use Rattle.planner.proofs.Answering.{plan-answered, question-answered}
 use Rattle.telling.specs.Telling.{refused_line, text_of, told, answer_lines, judged_input, absent_in, limit_in, file_in}
 
 both-good : (j k : Judged) → or_else j k ≡ Good → (j ≡ Good) × (k ≡ Good)
-both-good Good k e = (refl, e)
-both-good (Refused r) k e = absurd (good-refused e refl)
+both-good (Ok nothing) k e = (refl, e)
+both-good (Err r) k e = absurd (good-refused e refl)
 
 -- The text of a refused input is the one line of its refusal.
 pub refused-text : (input : List ℕ) (r : Refusal) → judged_input input ≡ Refused r → text_of input ≡ refused_line r
@@ -59,12 +58,12 @@ module _ (input : List ℕ) (good : judged_input input ≡ Good) where
       ∙ ap (λ (j : Judged). answer_lines (if_good j asked empty_case) (absent_in input) (limit_in input)) file-good
 
   -- Its plan line shows what the walk comes to under the limit.
-  pub good-plan : plan_call asked (limit_in input) ≡ plan_answer (cut (limit_in input) (plan_of asked))
+  pub good-plan : plan_call asked (limit_in input) ≡ Ok (plan_answer (cut (limit_in input) (plan_of asked)))
   good-plan = sym (plan-answered asked (limit_in input) (plan_answer (cut (limit_in input) (plan_of asked))) case-good refl)
 
   -- So does the line of each question.
   pub good-verdict : (q : Question)
-      → question_call q asked (absent_in input) (limit_in input) ≡ verdict_answer (cut (limit_in input) (walk_of q asked (absent_in input)))
+      → question_call q asked (absent_in input) (limit_in input) ≡ Ok (verdict_answer (cut (limit_in input) (walk_of q asked (absent_in input))))
   good-verdict q =
       sym
       (question-answered q asked (absent_in input) (limit_in input) (verdict_answer (cut (limit_in input) (walk_of q asked (absent_in input))))

@@ -24,8 +24,8 @@ use Rattle.cases.specs.Chain.{plan_of}
 use Rattle.cases.specs.Positions.{persons}
 use Rattle.cases.proofs.Rounds.{may-known}
 use Rattle.cases.proofs.Answers.{plan-first-got}
-use Rattle.refusals.specs.declared.Judged.{Judged}
-use Rattle.refusals.specs.declared.Judged.TheVariants.{Good, Refused}
+use Rattle.std.specs.Prelude.{Result, Ok, Err}
+use Rattle.refusals.specs.Refusals.{Judged, Good}
 use Rattle.refusals.specs.declared.Refusal.{Refusal}
 use Rattle.refusals.specs.CaseChecks.{Limited, judged_case}
 use Rattle.refusals.proofs.Cases.{good-limited}
@@ -34,8 +34,8 @@ use Rattle.asking.specs.Asking.{most_absent}
 use Rattle.asking.proofs.Calls.{question-good}
 use Rattle.planner.specs.declared.Question.{Question}
 use Rattle.planner.specs.declared.Question.TheVariants.{Static, Decremental, OneShot, Dynamic}
-use Rattle.planner.specs.declared.PlanSays.TheVariants as plan
 use Rattle.planner.specs.declared.PlanAnswer.{PlanAnswer}
+use Rattle.planner.specs.declared.PlanAnswer.TheVariants as plan
 use Rattle.planner.specs.declared.VerdictAnswer.{VerdictAnswer}
 use Rattle.planner.specs.declared.VerdictAnswer.TheVariants as verdict
 use Rattle.planner.specs.Answers.{position_of, plan_ended, plan_answer, verdict_ended, verdict_answer}
@@ -162,7 +162,7 @@ count_most l w = go (leb w.trials l) refl
 
 -- `plan yes`, eight persons, and the trials
 plan-ended-fits : (c : Case) → judged_case c ≡ Good → (o : Ended (Option (List ℕ))) (n : ℕ) → n < 2 ^ 32
-    → ((q : List ℕ) → o ≡ ended (some q) → Plan c q) → length (plan_line (plan_ended o n)) ≤ 51
+    → ((q : List ℕ) → o ≡ ended (some q) → Plan c q) → length (plan_line (Ok (plan_ended o n))) ≤ 51
 unfolding plan_line
 plan-ended-fits c good limit n h k =
     omega (arith, line-length (bytes "plan") (bytes "limit" ∷ trials n), spaced-length (bytes "limit") (trials n), trials-fit n h)
@@ -190,13 +190,13 @@ plan-ended-fits c good (ended (some q)) n h k =
         let short : length q ≤ most_steps = omega (arith, found.whole, (good-limited c good).steps) in
         rw (persons-position q short) (omega (arith, persons-fit q small))
 
-pub plan-line-fits : (c : Case) (l : ℕ) → judged_case c ≡ Good → l < 2 ^ 32 → length (plan_line (plan_answer (cut l (plan_of c)))) ≤ 51
+pub plan-line-fits : (c : Case) (l : ℕ) → judged_case c ≡ Good → l < 2 ^ 32 → length (plan_line (Ok (plan_answer (cut l (plan_of c))))) ≤ 51
 plan-line-fits c l good h =
     plan-ended-fits c good (cut l (plan_of c)).out (cut l (plan_of c)).count (omega (arith, count_most l (plan_of c)))
     (λ q e. ((plan-first-got c q).0 ((cut-ended l (plan_of c) (some q)).0 e).1).0)
 
 -- a question's name, `no`, everybody, and the trials
-verdict-ended-fits : (name : List ℕ) (o : Ended (Option ℕ)) (n : ℕ) → n < 2 ^ 32 → length (verdict_line name (verdict_ended o n)) ≤ length name + 108
+verdict-ended-fits : (name : List ℕ) (o : Ended (Option ℕ)) (n : ℕ) → n < 2 ^ 32 → length (verdict_line name (Ok (verdict_ended o n))) ≤ length name + 108
 unfolding verdict_line
 verdict-ended-fits name limit n h =
     omega (arith, line-length name (bytes "limit" ∷ trials n), spaced-length (bytes "limit") (trials n), trials-fit n h)
@@ -211,7 +211,7 @@ verdict-ended-fits name (ended (some A)) n h =
       shown-fits 86 n shown h (members-fit (number (stored A))),
     )
 
-pub verdict-line-fits : (name : List ℕ) (l : ℕ) (w : Search ℕ) → l < 2 ^ 32 → length (verdict_line name (verdict_answer (cut l w))) ≤ length name + 108
+pub verdict-line-fits : (name : List ℕ) (l : ℕ) (w : Search ℕ) → l < 2 ^ 32 → length (verdict_line name (Ok (verdict_answer (cut l w)))) ≤ length name + 108
 verdict-line-fits name l w h = verdict-ended-fits name (cut l w).out (cut l w).count (omega (arith, count_most l w))
 
 -- a refusal with the largest numbers that can be written
@@ -249,17 +249,17 @@ pub text-fits : (input : List ℕ) → AllBytes input → length (text_of input)
 text-fits input b = go (judged_input input) refl
   where
     go : (j : Judged) → judged_input input ≡ j → length (text_of input) ≤ room
-    go Good e = good-fits input e (omega (arith, b 2, b 3, b 4, b 5))
-    go (Refused r) e = rw (refused-text input r e) (omega (arith, refused-line-fits r))
+    go (Ok nothing) e = good-fits input e (omega (arith, b 2, b 3, b 4, b 5))
+    go (Err r) e = rw (refused-text input r e) (omega (arith, refused-line-fits r))
 
 -- ---- the bound is reached, by form
 
 -- a yes with eight persons of two digits, and a no that shows everybody, each after as many trials as any limit lets through
-abbrev longest_plan : PlanAnswer
-longest_plan = record { says = plan.Yes 4294967295; plan = position_of (replicate most_steps 31) }
+abbrev longest_plan : Result PlanAnswer Refusal
+longest_plan = Ok (plan.Yes (position_of (replicate most_steps 31)) 4294967295)
 
-abbrev longest_no : VerdictAnswer
-longest_no = verdict.No (stored 4294967295) 4294967295
+abbrev longest_no : Result VerdictAnswer Refusal
+longest_no = Ok (verdict.No (stored 4294967295) 4294967295)
 
 -- Answers of the calls' types whose lines fill the room to the last byte.
 pub room-reached :

@@ -15,9 +15,8 @@ use lib.Seq.{get_or-take, take_all, take-add, drop_at, length-take-le}
 use Rattle.sets.proofs.Lists.{only_if-none}
 use Rattle.cases.specs.declared.Counts.{Counts}
 use Rattle.cases.specs.Case.{empty_case}
-use Rattle.refusals.specs.declared.Judged.{Judged}
-use Rattle.refusals.specs.declared.Judged.TheVariants.{Good, Refused}
-use Rattle.refusals.specs.Refusals.{Check, refusal, judged_by, or_else, only_check}
+use Rattle.std.specs.Prelude.{Ok, Err}
+use Rattle.refusals.specs.Refusals.{Judged, Good, Refused, Check, refusal, judged_by, or_else, only_check}
 use Rattle.refusals.specs.Offsets.{people_at, steps_at, tables_at, rules_at, total_of}
 use Rattle.refusals.specs.CaseChecks.{too_many, entry_checks}
 use Rattle.refusals.proofs.Cases.{limited}
@@ -93,12 +92,12 @@ long-judged f h =
 
     go : (j : Judged) → judged_by (header_checks f) ≡ j
         → or_else j (judged_by (only_check 6 (not (eqb (length f) (word f 20))) ∷ entry_checks (case_of f))) ≡ or_else j (Refused (refusal 6 0))
-    go (Refused r) e = refl
-    go Good e = ap (λ (b : Bool). judged_by (only_check 6 (not b) ∷ entry_checks (case_of f))) (too_long f h e)
+    go (Err r) e = refl
+    go (Ok nothing) e = ap (λ (b : Bool). judged_by (only_check 6 (not b) ∷ entry_checks (case_of f))) (too_long f h e)
 
 refused-empty : {A : Type 0} (j : Judged) (a b : A) → if_good (or_else j (Refused (refusal 6 0))) a b ≡ b
-refused-empty Good a b = refl
-refused-empty (Refused r) a b = refl
+refused-empty (Ok nothing) a b = refl
+refused-empty (Err r) a b = refl
 
 long-read : (f : List ℕ) → 1016 < length f
     → read_of f ≡ record { judged = or_else (judged_by (header_checks f)) (Refused (refusal 6 0)); held = empty_case }

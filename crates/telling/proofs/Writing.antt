@@ -7,10 +7,11 @@ use lib.ListN.{length, take, set, replicate, length-append}
 use lib.Seq.{set-append_seam, take-append_seam}
 use Rattle.sets.proofs.Lists.{pick-lt}
 use Rattle.cases.specs.declared.Case.{Case}
-use Rattle.refusals.specs.declared.Judged.{Judged}
-use Rattle.refusals.specs.declared.Judged.TheVariants.{Good, Refused}
+use Rattle.std.specs.Prelude.{Result}
 use Rattle.refusals.specs.declared.Refusal.{Refusal}
-use Rattle.refusals.specs.Refusals.{judged_by, or_else}
+use Rattle.std.specs.Result.{result_and}
+use Rattle.telling.proofs.Laid.{and-later}
+use Rattle.refusals.specs.Refusals.{Judged, Good, Refused, judged_by, or_else}
 use Rattle.words.specs.Word.{AllBytes}
 use Rattle.asking.specs.Asking.{number_check}
 use Rattle.files.specs.declared.FileRead.{FileRead}
@@ -51,7 +52,7 @@ held-put a (b ∷ w) h =
     ∙ ap held (append_assoc a (b ∷ []) w)
 
 -- the lines, one put after the other
-pub lines-put : (c : Case) (t l : ℕ) (x₀ x₁ x₂ x₃ x₄ x₅ x₆ x₇ : Text) (p : PlanAnswer) (s e o d : VerdictAnswer) → x₀ ≡ held []
+pub lines-put : (c : Case) (t l : ℕ) (x₀ x₁ x₂ x₃ x₄ x₅ x₆ x₇ : Text) (p : Result PlanAnswer Refusal) (s e o d : Result VerdictAnswer Refusal) → x₀ ≡ held []
     → x₁ ≡ put x₀ (case_line c.counts) → x₂ ≡ put x₁ (asked_line t l) → p ≡ plan_call c l → x₃ ≡ put x₂ (plan_line p)
     → s ≡ static_call c t l → x₄ ≡ put x₃ (verdict_line (bytes "static") s)
     → e ≡ decremental_call c t l → x₅ ≡ put x₄ (verdict_line (bytes "decremental") e)
@@ -61,24 +62,25 @@ unfolding answer_lines
 lines-put c t l x₀ x₁ x₂ x₃ x₄ x₅ x₆ x₇ p s e o d h₀ h₁ h₂ hp h₃ hs h₄ he h₅ ho h₆ hd h₇ =
     let one = h₁ ∙ ap (λ (x : Text). put x (case_line c.counts)) h₀ in
     let two = then-put _ _ _ _ one _ h₂ in
-    let three = then-put _ _ _ _ two _ (h₃ ∙ ap (λ (a : PlanAnswer). put x₂ (plan_line a)) hp) in
+    let three = then-put _ _ _ _ two _ (h₃ ∙ ap (λ (a : Result PlanAnswer Refusal). put x₂ (plan_line a)) hp) in
     let four = then-put _ _ _ _ three _ (verdict-put x₃ x₄ (bytes "static") hs h₄) in
     let five = then-put _ _ _ _ four _ (verdict-put x₄ x₅ (bytes "decremental") he h₅) in
     let six = then-put _ _ _ _ five _ (verdict-put x₅ x₆ (bytes "one-shot") ho h₆) in
     let seven = then-put _ _ _ _ six _ (verdict-put x₆ x₇ (bytes "dynamic") hd h₇) in
     put_same _ _ _ _ seven (simp append_assoc)
   where
-    verdict-put : (x y : Text) (name : List ℕ) {a b : VerdictAnswer} → a ≡ b → y ≡ put x (verdict_line name a) → y ≡ put x (verdict_line name b)
-    verdict-put x y name h k = k ∙ ap (λ (a : VerdictAnswer). put x (verdict_line name a)) h
+    verdict-put : (x y : Text) (name : List ℕ) {a b : Result VerdictAnswer Refusal} → a ≡ b → y ≡ put x (verdict_line name a) → y ≡ put x (verdict_line name b)
+    verdict-put x y name h k = k ∙ ap (λ (a : Result VerdictAnswer Refusal). put x (verdict_line name a)) h
 
 -- ---- an input is judged and told
 
 pub input-judged : (input : List ℕ) (f : FileRead) (t : ℕ) (j k : Judged) → f ≡ read_of (file_in input) → t ≡ absent_in input
-    → k ≡ judged_by (number_check t ∷ []) → j ≡ or_else f.judged k → judged_input input ≡ j
+    → k ≡ judged_by (number_check t ∷ []) → j ≡ result_and f.judged k → judged_input input ≡ j
 unfolding judged_input
 input-judged input f t j k ef et ek ej =
     sym
     (ej
+    ∙ and-later f.judged k
     ∙ ap₂ or_else (ap (λ (x : FileRead). x.judged) ef) (ek ∙ ap (λ (n : ℕ). judged_by (number_check n ∷ [])) et))
 
 text-held : (input : List ℕ) (x : Text) → AllBytes input → x ≡ put (held []) (text_of input) → x ≡ held (text_of input)

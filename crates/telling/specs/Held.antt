@@ -9,10 +9,6 @@ use Rattle.telling.specs.declared.text.Text.{Text}
 abbrev pub room : ℕ
 room = 560
 
--- the record of bytes of which the first n count
-abbrev pub text : List ℕ → ℕ → Text
-text l n = record { bytes = l; len = n }
-
 -- the record of a text
 unfoldable pub held : List ℕ → Text
 held l = record { bytes = l ++ replicate (room - length l) 0; len = length l }

@@ -1,21 +1,17 @@
 -- What the program writes for an input: t (2 bytes), limit (4 bytes), both little-endian, then a case.
-use Rattle.std.specs.Prelude.{List, [], ◌∷◌, ◌++◌, map, ℕ, drop}
+use Rattle.std.specs.Prelude.{List, [], ◌∷◌, ◌++◌, map, ℕ, Result, Ok, Err, drop}
 use Rattle.sets.specs.Sets.{members}
 use Rattle.sets.specs.Stored.{width, number}
 use Rattle.cases.specs.declared.Case.{Case}
 use Rattle.cases.specs.declared.Counts.{Counts}
-use Rattle.cases.specs.declared.Position.{Position}
 use Rattle.cases.specs.Positions.{persons}
 use Rattle.refusals.specs.declared.Refusal.{Refusal}
-use Rattle.refusals.specs.declared.Judged.{Judged}
-use Rattle.refusals.specs.declared.Judged.TheVariants.{Good, Refused}
-use Rattle.refusals.specs.Refusals.{judged_by, or_else}
+use Rattle.refusals.specs.Refusals.{Judged, judged_by, or_else}
 use Rattle.words.specs.Word.{word, long}
 use Rattle.asking.specs.Asking.{number_check}
 use Rattle.files.specs.Reading.{read_of}
-use Rattle.planner.specs.declared.PlanSays.{PlanSays}
-use Rattle.planner.specs.declared.PlanSays.TheVariants as plan
 use Rattle.planner.specs.declared.PlanAnswer.{PlanAnswer}
+use Rattle.planner.specs.declared.PlanAnswer.TheVariants as plan
 use Rattle.planner.specs.declared.VerdictAnswer.{VerdictAnswer}
 use Rattle.planner.specs.declared.VerdictAnswer.TheVariants as verdict
 use Rattle.planner.specs.Calls.{plan_call, static_call, decremental_call, one_shot_call, dynamic_call}
@@ -37,18 +33,18 @@ refused r = decimal r.number ∷ (bytes "at" ∷ (decimal r.place ∷ []))
 
 -- After "plan yes" stand the persons by step. "plan no" shows nothing but its trials. No call refuses a case that was judged good
 -- (proofs/Answered.antt), so that the word "refused" stands in no line but a refusal's own.
-abbrev pub plan_words : PlanSays → Position → List (List ℕ)
-plan_words (plan.Refused r) p = bytes "refused" ∷ refused r
-plan_words (plan.Limit n) p = bytes "limit" ∷ trials n
-plan_words (plan.No n) p = bytes "no" ∷ trials n
-plan_words (plan.Yes n) p = bytes "yes" ∷ (listed (persons p) ++ trials n)
+abbrev pub plan_words : Result PlanAnswer Refusal → List (List ℕ)
+plan_words (Err r) = bytes "refused" ∷ refused r
+plan_words (Ok (plan.Limit n)) = bytes "limit" ∷ trials n
+plan_words (Ok (plan.No n)) = bytes "no" ∷ trials n
+plan_words (Ok (plan.Yes p n)) = bytes "yes" ∷ (listed (persons p) ++ trials n)
 
 -- After a verdict's "no" stands the shown set, ascending.
-abbrev pub verdict_words : VerdictAnswer → List (List ℕ)
-verdict_words (verdict.Refused r) = bytes "refused" ∷ refused r
-verdict_words (verdict.Limit n) = bytes "limit" ∷ trials n
-verdict_words (verdict.Yes n) = bytes "yes" ∷ trials n
-verdict_words (verdict.No shown n) = bytes "no" ∷ (listed (members width (number shown)) ++ trials n)
+abbrev pub verdict_words : Result VerdictAnswer Refusal → List (List ℕ)
+verdict_words (Err r) = bytes "refused" ∷ refused r
+verdict_words (Ok (verdict.Limit n)) = bytes "limit" ∷ trials n
+verdict_words (Ok (verdict.Yes n)) = bytes "yes" ∷ trials n
+verdict_words (Ok (verdict.No shown n)) = bytes "no" ∷ (listed (members width (number shown)) ++ trials n)
 
 -- ---- The lines
 
@@ -60,18 +56,19 @@ case_line n = line (bytes "case") (map decimal (n.people ∷ (n.steps ∷ (n.rol
 unfoldable pub asked_line : ℕ → ℕ → List ℕ
 asked_line t l = line (bytes "absent") (decimal t ∷ (bytes "limit" ∷ (decimal l ∷ [])))
 
-unfoldable pub plan_line : PlanAnswer → List ℕ
-plan_line a = line (bytes "plan") (plan_words a.says a.plan)
+unfoldable pub plan_line : Result PlanAnswer Refusal → List ℕ
+plan_line a = line (bytes "plan") (plan_words a)
 
 -- the line of a question, which begins with its name
-unfoldable pub verdict_line : List ℕ → VerdictAnswer → List ℕ
+unfoldable pub verdict_line : List ℕ → Result VerdictAnswer Refusal → List ℕ
 verdict_line name a = line name (verdict_words a)
 
 unfoldable pub refused_line : Refusal → List ℕ
 refused_line r = line (bytes "refused") (refused r)
 
 -- the counts, what is asked, and what each call says
-abbrev pub lines_of : Counts → ℕ → ℕ → PlanAnswer → VerdictAnswer → VerdictAnswer → VerdictAnswer → VerdictAnswer → List ℕ
+abbrev pub lines_of : Counts → ℕ → ℕ → Result PlanAnswer Refusal → Result VerdictAnswer Refusal → Result VerdictAnswer Refusal → Result VerdictAnswer Refusal
+    → Result VerdictAnswer Refusal → List ℕ
 lines_of n t l p s e o d =
     case_line n
     ++ (asked_line t l
@@ -85,8 +82,8 @@ answer_lines c t l = lines_of c.counts t l (plan_call c l) (static_call c t l) (
 
 -- a refusal is the only line
 abbrev pub told : Judged → List ℕ → List ℕ
-told Good lines = lines
-told (Refused r) lines = refused_line r
+told (Ok nothing) lines = lines
+told (Err r) lines = refused_line r
 
 -- ---- The input
 

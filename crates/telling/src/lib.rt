@@ -7,17 +7,18 @@ mod text_lines;
 
 ghost use Rattle.std.specs.Prelude.{◌≡◌, []};
 ghost use Rattle.files.specs.Reading.{read_of};
+ghost use Rattle.refusals.specs.Refusals.{Good};
 ghost use Rattle.asking.specs.Asking.{judged_question};
 ghost use Rattle.telling.specs.Telling.{file_in, answer_lines, text_of};
 ghost use Rattle.telling.specs.Held.{held, put};
 
 use asking::judge_number;
+use boards::Board;
 use cases::Case;
 use files::{FileRead, read};
 use laying::lay_out;
 use pieces::Order;
 use planner::{Question, ask_laid, plan_laid};
-use refusals::Judged;
 pub use text::Text;
 pub use text_lines::{put_asked, put_case, put_plan, put_refusal, put_verdict};
 use words::{long_at, word_at};
@@ -29,10 +30,9 @@ pub fn tell(input: &[u8]) -> Text
     let t = word_at(input, 0) as u32;
     let limit = long_at(input, 2);
     let file = read_file(input);
-    let judged = file.judged;
-    match judged.or_else(judge_number(t)) {
-        Judged::Refused(refusal) => put_refusal(Text::empty(), refusal),
-        Judged::Good => answer_lines(file.held, t, limit),
+    match file.judged.and(judge_number(t)) {
+        Err(refusal) => put_refusal(Text::empty(), refusal),
+        Ok(()) => answer_lines(file.held, t, limit),
     }
 }
 
@@ -50,20 +50,23 @@ fn read_file(input: &[u8]) -> FileRead
 // The lines for a case that is judged with t: its counts, what is asked, and a line for each answer in the order of the questions. The case is laid out
 // once for all of them.
 fn answer_lines(case: Case, t: u32, limit: u32) -> Text
-    requires { judged_question case t ≡ Judged.Good }
+    requires { judged_question case t ≡ Good }
     ensures { result ≡ put (held []) (answer_lines case t limit) }
 {
     let head = put_asked(put_case(Text::empty(), case.counts), t, limit);
-    let board = lay_out(case, Order::Listed);
-    let people = case.counts.people as u8;
+    let words = lay_out(case, Order::Listed);
+    let board = Board {
+        words,
+        people: case.counts.people as u8,
+    };
     let steps = case.counts.steps as u8;
-    let plan = plan_laid(&board, people, steps, limit);
-    let fixed = ask_laid(Question::Static, &board, people, t, steps, limit);
-    let growing = ask_laid(Question::Decremental, &board, people, t, steps, limit);
-    let struck = ask_laid(Question::OneShot, &board, people, t, steps, limit);
-    let changing = ask_laid(Question::Dynamic, &board, people, t, steps, limit);
-    let first = put_verdict(put_plan(head, plan), b"static", fixed);
-    let second = put_verdict(first, b"decremental", growing);
-    let third = put_verdict(second, b"one-shot", struck);
-    put_verdict(third, b"dynamic", changing)
+    let plan = plan_laid(&board, steps, limit);
+    let fixed = ask_laid(Question::Static, &board, t, steps, limit);
+    let growing = ask_laid(Question::Decremental, &board, t, steps, limit);
+    let struck = ask_laid(Question::OneShot, &board, t, steps, limit);
+    let changing = ask_laid(Question::Dynamic, &board, t, steps, limit);
+    let first = put_verdict(put_plan(head, Ok(plan)), b"static", Ok(fixed));
+    let second = put_verdict(first, b"decremental", Ok(growing));
+    let third = put_verdict(second, b"one-shot", Ok(struck));
+    put_verdict(third, b"dynamic", Ok(changing))
 }

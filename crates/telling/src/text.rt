@@ -4,9 +4,8 @@ ghost use Rattle.telling.specs.Lines.{decimal};
 ghost use Rattle.telling.specs.Held.{held, put_byte};
 ghost use Rattle.telling.specs.Held.{put as put_held};
 
-use crate::room::{add_number, add_word};
-
-// A text: its bytes, of which the first `len` count and the others are 0.
+// A text: its bytes, of which the first `len` count and the others are 0. No string and no vector, since telling may not run out of memory; and `held`
+// fixes the bytes behind the text too.
 #[derive(Clone, Copy)]
 pub struct Text {
     pub bytes: [u8; Text::ROOM],
@@ -28,40 +27,26 @@ impl Text {
     }
 
     // One byte more, where there is room.
-    pub fn put_byte(self, b: u8) -> Text
+    pub fn put_byte(mut self, b: u8) -> Text
         ensures { result ≡ put_byte self b }
     {
-        let at = self.len;
-        if Text::ROOM <= at {
-            return self;
-        }
-        let mut next = self;
-        next.bytes[at] = b;
-        next.len = at + 1;
-        next
+        self.add_byte(b);
+        self
     }
 
     // More bytes.
-    pub fn put(self, word: &[u8]) -> Text
+    pub fn put(mut self, word: &[u8]) -> Text
         ensures { result ≡ put_held self word.now }
     {
-        let mut bytes = self.bytes;
-        let len = add_word(&mut bytes, self.len, word);
-        Text {
-            bytes: bytes,
-            len: len,
-        }
+        self.add(word);
+        self
     }
 
     // A space and a number.
-    pub fn put_number(self, n: u64) -> Text
+    pub fn put_number(mut self, n: u64) -> Text
         ensures { result ≡ put_held self (32 ∷ decimal n) }
     {
-        let mut bytes = self.bytes;
-        let len = add_number(&mut bytes, self.len, n);
-        Text {
-            bytes: bytes,
-            len: len,
-        }
+        self.add_number(n);
+        self
     }
 }

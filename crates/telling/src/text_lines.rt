@@ -1,19 +1,17 @@
 // The lines, each put at the end of a text.
 ghost use Rattle.std.specs.Prelude.{◌≡◌, [], ◌∷◌, ◌++◌, map};
-ghost use Rattle.sets.specs.Lists.{cons_if};
-ghost use Rattle.sets.specs.Sets.{has, members};
+ghost use Rattle.sets.specs.Sets.{members};
 ghost use Rattle.sets.specs.Stored.{width, number};
 ghost use Rattle.cases.specs.Positions.{persons};
 ghost use Rattle.telling.specs.Lines.{decimal, spaced};
-ghost use Rattle.telling.specs.Held.{text, put};
+ghost use Rattle.telling.specs.Held.{put};
 ghost use Rattle.telling.specs.Telling.{listed, trials, refused, case_line, asked_line, plan_line, verdict_line, refused_line};
 
 use crate::Text;
-use crate::room::add_number;
 use cases::{Counts, Position};
-use planner::{PlanAnswer, PlanSays, VerdictAnswer};
+use planner::{PlanAnswer, VerdictAnswer};
 use refusals::Refusal;
-use sets::{Lowest, People};
+use sets::People;
 
 // The counts: people, steps, roles, tables, rules.
 pub fn put_case(text: Text, n: Counts) -> Text
@@ -41,29 +39,32 @@ pub fn put_asked(text: Text, t: u32, limit: u32) -> Text
 }
 
 // What the plan call said.
-pub fn put_plan(text: Text, answer: PlanAnswer) -> Text
+pub fn put_plan(text: Text, answer: Result<PlanAnswer, Refusal>) -> Text
     ensures { result ≡ put text (plan_line answer) }
 {
     let named = text.put(b"plan");
-    let says = answer.says;
-    match says {
-        PlanSays::Refused(refusal) => end_refused(named.put(b" refused"), refusal),
-        PlanSays::Limit(trials) => end_trials(named.put(b" limit"), trials),
-        PlanSays::No(trials) => end_trials(named.put(b" no"), trials),
-        PlanSays::Yes(trials) => end_trials(put_persons(named.put(b" yes"), answer.plan), trials),
+    match answer {
+        Err(refusal) => end_refused(named.put(b" refused"), refusal),
+        Ok(PlanAnswer::Limit(trials)) => end_trials(named.put(b" limit"), trials),
+        Ok(PlanAnswer::No(trials)) => end_trials(named.put(b" no"), trials),
+        Ok(PlanAnswer::Yes(plan, trials)) => {
+            end_trials(put_persons(named.put(b" yes"), plan), trials)
+        }
     }
 }
 
 // What a verdict said, after the question's name.
-pub fn put_verdict(text: Text, name: &[u8], answer: VerdictAnswer) -> Text
+pub fn put_verdict(text: Text, name: &[u8], answer: Result<VerdictAnswer, Refusal>) -> Text
     ensures { result ≡ put text (verdict_line name.now answer) }
 {
     let named = text.put(name);
     match answer {
-        VerdictAnswer::Refused(refusal) => end_refused(named.put(b" refused"), refusal),
-        VerdictAnswer::Limit(trials) => end_trials(named.put(b" limit"), trials),
-        VerdictAnswer::Yes(trials) => end_trials(named.put(b" yes"), trials),
-        VerdictAnswer::No(shown, trials) => end_trials(put_set(named.put(b" no"), shown), trials),
+        Err(refusal) => end_refused(named.put(b" refused"), refusal),
+        Ok(VerdictAnswer::Limit(trials)) => end_trials(named.put(b" limit"), trials),
+        Ok(VerdictAnswer::Yes(trials)) => end_trials(named.put(b" yes"), trials),
+        Ok(VerdictAnswer::No(shown, trials)) => {
+            end_trials(put_set(named.put(b" no"), shown), trials)
+        }
     }
 }
 
@@ -99,27 +100,13 @@ fn put_persons(text: Text, p: Position) -> Text
     each_person(text, p)
 }
 
-fn each_person(text: Text, p: Position) -> Text
+fn each_person(mut text: Text, p: Position) -> Text
     ensures { result ≡ put text (spaced (map decimal (persons p))) }
 {
-    let mut bytes = text.bytes;
-    let len = add_persons(&mut bytes, text.len, p);
-    Text {
-        bytes: bytes,
-        len: len,
+    for i in 0..p.len {
+        text.add_number(p.person(i).0 as u64);
     }
-}
-
-fn add_persons(bytes: &mut [u8; Text::ROOM], at: usize, p: Position) -> usize
-    ensures { text bytes.new result ≡ put (text bytes.old at) (spaced (map decimal (persons p))) }
-{
-    let mut len = at;
-    let mut i: u8 = 0;
-    while i < p.len {
-        len = add_number(bytes, len, p.person(i).0 as u64);
-        i += 1;
-    }
-    len
+    text
 }
 
 // The members of a set, ascending, or `none`.
@@ -127,40 +114,18 @@ fn put_set(text: Text, set: People) -> Text
     ensures { result ≡ put text (spaced (listed (members width (number set)))) }
 {
     match set.lowest() {
-        Lowest::Nobody => text.put(b" none"),
-        Lowest::Person(_) => each_member(text, set),
+        None => text.put(b" none"),
+        Some(_) => each_member(text, set),
     }
 }
 
-fn each_member(text: Text, set: People) -> Text
+fn each_member(mut text: Text, set: People) -> Text
     ensures { result ≡ put text (spaced (map decimal (members width (number set)))) }
 {
-    let mut bytes = text.bytes;
-    let len = add_members(&mut bytes, text.len, set);
-    Text {
-        bytes: bytes,
-        len: len,
+    for v in 0..People::WIDTH {
+        if set.has(v) {
+            text.add_number(v as u64);
+        }
     }
-}
-
-fn add_members(bytes: &mut [u8; Text::ROOM], at: usize, set: People) -> usize
-    ensures { text bytes.new result ≡ put (text bytes.old at) (spaced (map decimal (members width (number set)))) }
-{
-    let mut len = at;
-    let mut v: u8 = 0;
-    while v < People::WIDTH {
-        len = add_member(bytes, len, set, v);
-        v += 1;
-    }
-    len
-}
-
-// Person v, if a member.
-fn add_member(bytes: &mut [u8; Text::ROOM], at: usize, set: People, v: u8) -> usize
-    ensures { text bytes.new result ≡ put (text bytes.old at) (spaced (map decimal (cons_if (has (number set) v) v []))) }
-{
-    if set.has(v) {
-        return add_number(bytes, at, v as u64);
-    }
-    at
+    text
 }

@@ -1,13 +1,14 @@
-use mathlib.Core.Path.{◌∙◌}
 use Rattle.asking.proofs.Laid.{good-ready}
-use Rattle.planner.proofs.Answering.{question-judged, question-refused, question-answered}
+use Rattle.planner.proofs.Answering.{turned, question-judged, question-refused, question-answered}
 use Rattle.planner.proofs.ask_good.Goals as goal
 
-pub ask_ready-requires : goal.ask_ready-requires
-ask_ready-requires c = good-ready _ c.requires
+pub returns-in_err-judge_number : goal.returns-in_err-judge_number
+returns-in_err-judge_number c =
+    turned _ c.from_residual.ensures.1 (question-refused _ _ _ _ _ (question-judged _ _ _ c.args.good.good c.in_err-judge_number.ensures))
 
-pub returns-in-Refused : goal.returns-in-Refused
-returns-in-Refused c = question-refused _ _ _ _ _ (question-judged _ _ _ c.requires c.judge_number.ensures ∙ c.in-Refused.is)
+pub returns : goal.returns
+returns c =
+    question-answered _ _ _ _ _ (question-judged _ _ _ c.args.good.good c.in_ok-judge_number.ensures) c.ask_ready.ensures
 
-pub returns-in-Good : goal.returns-in-Good
-returns-in-Good c = question-answered _ _ _ _ _ (question-judged _ _ _ c.requires c.judge_number.ensures ∙ c.in-Good.is) c.ask_ready.ensures
+pub invariant_of-ask_ready : goal.invariant_of-ask_ready
+invariant_of-ask_ready c = record { ready = good-ready _ c.args.good.good }

@@ -1,13 +1,15 @@
-use mathlib.Core.Path.{◌∙◌}
 use Rattle.asking.proofs.Laid.{good-ready}
-use Rattle.planner.proofs.Answering.{question-judged, away-turned, away-ready}
+use mathlib.Core.Path.{◌∙◌}
+use Rattle.planner.proofs.Answering.{turned, question-judged, away-turned, away-ready}
 use Rattle.planner.proofs.away_good.Goals as goal
 
-pub away_ready-requires : goal.away_ready-requires
-away_ready-requires c = good-ready _ c.requires
+pub returns-in_err-judge_number : goal.returns-in_err-judge_number
+returns-in_err-judge_number c =
+    turned _ c.from_residual.ensures.1 (away-turned _ _ _ _ _ (question-judged _ _ _ c.args.good.good c.in_err-judge_number.ensures))
 
-pub returns-in-Refused : goal.returns-in-Refused
-returns-in-Refused c = away-turned _ _ _ _ _ (question-judged _ _ _ c.requires c.judge_number.ensures ∙ c.in-Refused.is)
+pub returns : goal.returns
+returns c =
+    c.away_ready.ensures ∙ away-ready _ _ _ _ (question-judged _ _ _ c.args.good.good c.in_ok-judge_number.ensures)
 
-pub returns-in-Good : goal.returns-in-Good
-returns-in-Good c = c.away_ready.ensures ∙ away-ready _ _ _ _ (question-judged _ _ _ c.requires c.judge_number.ensures ∙ c.in-Good.is)
+pub invariant_of-away_ready : goal.invariant_of-away_ready
+invariant_of-away_ready c = record { ready = good-ready _ c.args.good.good }

@@ -19,18 +19,8 @@ asked : (board : List ℕ) (people t steps limit : ℕ) (q x : Question) {a : An
     → a ≡ cut limit (walk_on q board people t steps)
 asked board people t steps limit q x e k = k ∙ ap (λ y. cut limit (walk_on y board people t steps)) (sym e)
 
-pub static_walk-requires : goal.static_walk-requires
-static_walk-requires c = c.requires
-
 pub away_turn-requires : goal.away_turn-requires
-away_turn-requires c =
-    (c.requires, rw (nobody-shown c.none.ensures) (pow_pos _), rw (nobody-shown c.none.ensures, size-empty) (omega arith))
-
-pub one_shot_walk-requires : goal.one_shot_walk-requires
-one_shot_walk-requires c = c.requires
-
-pub dynamic_walk-requires : goal.dynamic_walk-requires
-dynamic_walk-requires c = c.requires
+away_turn-requires c = (rw (nobody-shown c.none.ensures) (pow_pos _), rw (nobody-shown c.none.ensures, size-empty) (omega arith))
 
 pub returns-in-Static : goal.returns-in-Static
 returns-in-Static c =

@@ -1,11 +1,12 @@
-use Rattle.rodcrank.specs.Calls.{judge_file}
-use Rattle.rodcrank.proofs.Replying.{refused-told, good-told}
+use mathlib.Core.Path.{ap, ◌∙◌}
+use Rattle.replies.specs.Replies.{says_yes, said_reply}
+use Rattle.rodcrank.specs.Calls.{if_good, judge_file}
 use Rattle.rodcrank.proofs.rodcrank_judge.Goals as goal
 
-pub returns-in-Refused : goal.returns-in-Refused
+pub returns-in-Ok : goal.returns-in-Ok
 unfolding judge_file
-returns-in-Refused c = refused-told _ c.judge.ensures _ c.in-Refused.is c.refused.ensures
+returns-in-Ok c = c.said.ensures ∙ ap (λ j. if_good j (said_reply says_yes 0)) c.in-Ok.ensures
 
-pub returns-in-Good : goal.returns-in-Good
+pub returns-in-Err : goal.returns-in-Err
 unfolding judge_file
-returns-in-Good c = good-told _ c.judge.ensures _ c.in-Good.is c.said.ensures
+returns-in-Err c = c.refused.ensures ∙ ap (λ j. if_good j (said_reply says_yes 0)) c.in-Err.ensures
