@@ -23,54 +23,38 @@ fn main(rt: HostRuntime) -> io::Result<()> {
     tries(&rt, &input[..n])
 }
 
+// Goes along what is left of the input, line by line; it counts no index.
 fn tries(rt: &impl Print, input: &[u8]) -> io::Result<()> {
-    let mut at = 0;
-    while at < input.len() {
-        let bar = find(input, at, b'|');
-        let end = find(input, bar, b'\n');
-        tried(rt, &input[at..bar], &input[bar..end])?;
-        at = end + 1;
+    let mut rest = input;
+    while !rest.is_empty() {
+        let (how, bar_name) = split_at(rest, b'|');
+        let (bar_name, end) = split_at(bar_name, b'\n');
+        tried(rt, how, bar_name)?;
+        rest = end.get(1..).unwrap_or(&[]);
     }
     Ok(())
 }
 
-// The first place from `from` on where the byte is `mark`, or the end.
-fn find(s: &[u8], from: usize, mark: u8) -> usize
-    requires { from ≤ length s.now }
-    ensures { (from ≤ result) × (result ≤ length s.now) }
+// What stands before the first such mark, and what stands from it on.
+fn split_at(s: &[u8], mark: u8) -> (&[u8], &[u8])
+    ensures { length result.1.now ≤ length s.now }
 {
-    let mut i = from;
-    while i < s.len() {
-        if s[i] == mark {
-            return i;
-        }
-        i += 1;
-    }
-    i
+    let at = s.iter().position(|b| *b == mark).unwrap_or(s.len());
+    s.split_at(at)
 }
 
 // One try: how the file is made, and its name after a bar and a space.
 fn tried(rt: &impl Print, how: &[u8], bar_name: &[u8]) -> io::Result<()> {
-    if how.len() == 0 {
+    let (Some(letter), Some(name)) = (how.first(), bar_name.get(2..)) else {
         return Ok(());
-    }
-    if bar_name.len() < 2 {
-        return Ok(());
-    }
-    let file = made(how, Making::from(how[0])).file();
-    show(rt, &bar_name[2..], file)?;
-    if how[0] < b'a' {
-        show_parts(rt, file)?;
+    };
+    let making = how
+        .iter()
+        .fold(Making::from(*letter), |making, b| making.read(*b));
+    let file = making.file();
+    show(rt, name, file.bytes())?;
+    if *letter < b'a' {
+        show_parts(rt, file.bytes())?;
     }
     Ok(())
-}
-
-fn made(how: &[u8], from: Making) -> Making {
-    let mut making = from;
-    let mut i = 0;
-    while i < how.len() {
-        making = making.read(how[i]);
-        i += 1;
-    }
-    making
 }

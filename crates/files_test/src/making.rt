@@ -6,22 +6,38 @@ pub struct Making {
     file: Made,
     // the number that is being read
     number: u16,
-    // where to put it, at how many places; or that it is a length
+    // the place that was read before it
     at: u16,
-    many: u8,
-    length: bool,
+    change: Change,
+}
+
+// What the number that is read will be.
+#[derive(Clone, Copy)]
+enum Change {
+    // the length of the file
+    Length,
+    // the byte at so many places
+    Places(u8),
 }
 
 impl Making {
     // The file to start from.
     pub fn from(letter: u8) -> Making {
-        let file = start(letter);
+        Making::of(match letter {
+            b'r' | b'R' => related(),
+            b'l' | b'L' => largest(),
+            b'n' | b'N' => nobody(),
+            _ => campfire(),
+        })
+    }
+
+    // Nothing is read yet.
+    fn of(file: Made) -> Making {
         Making {
-            file: file,
+            file,
             number: 0,
             at: 0,
-            many: 0,
-            length: false,
+            change: Change::Places(0),
         }
     }
 
@@ -33,10 +49,10 @@ impl Making {
     pub fn read(self, b: u8) -> Making {
         match b {
             b'0'..=b'9' => self.digit(b - b'0'),
-            b'*' => self.place(0, false),
+            b'*' => self.place(Change::Places(0)),
             b'=' => self.value(),
-            b'#' => self.place(0, true),
-            b' ' => self.done(),
+            b'#' => self.place(Change::Length),
+            b' ' => Making::of(self.changed()),
             _ => self,
         }
     }
@@ -45,62 +61,48 @@ impl Making {
         if 6000 < self.number {
             return self;
         }
-        let mut next = self;
-        next.number = self.number * 10 + (d as u16);
-        next
+        Making {
+            number: self.number * 10 + (d as u16),
+            ..self
+        }
     }
 
     // The number read is a place, and another number follows.
-    fn place(self, many: u8, length: bool) -> Making {
-        let mut next = self;
-        next.at = self.number;
-        next.many = many;
-        next.length = length;
-        next.number = 0;
-        next
+    fn place(self, change: Change) -> Making {
+        Making {
+            at: self.number,
+            number: 0,
+            change,
+            ..self
+        }
     }
 
     // What was read before the value: how many places, where the place is known, else the place.
     fn value(self) -> Making {
         if self.at == 0 {
-            return self.place(1, false);
+            return self.place(Change::Places(1));
         }
-        let mut next = self;
-        next.many = low(self.number);
-        next.number = 0;
-        next
+        let change = match self.change {
+            Change::Length => Change::Length,
+            Change::Places(_) => Change::Places(low(self.number)),
+        };
+        Making {
+            number: 0,
+            change,
+            ..self
+        }
     }
 
     // A change is read whole.
-    fn done(self) -> Making {
-        let file = self.changed();
-        Making {
-            file: file,
-            number: 0,
-            at: 0,
-            many: 0,
-            length: false,
-        }
-    }
-
     fn changed(self) -> Made {
-        let file = self.file;
-        if self.length {
-            return file.long(self.number as usize);
+        match self.change {
+            Change::Length => self.file.long(self.number as usize),
+            Change::Places(many) => self.file.each(self.at as usize, many, low(self.number)),
         }
-        file.each(self.at as usize, self.many, low(self.number))
-    }
-}
-
-fn start(letter: u8) -> Made {
-    match letter {
-        b'r' | b'R' => related(),
-        b'l' | b'L' => largest(),
-        b'n' | b'N' => nobody(),
-        _ => campfire(),
     }
 }
 
 fn low(n: u16) -> u8 {
-    (n % 256) as u8
+    let [low, _] = n.to_le_bytes();
+    low
 }

@@ -1,8 +1,10 @@
 // The lines that `planner_test` reads, and the cases that they make. No part of the product.
 #![tactic(auto)]
 
+mod entries;
 mod lines;
-mod making;
+mod numbers;
 
-pub use lines::{Line, find, read_line, starts};
-pub use making::{Part, filled, with_counts};
+pub use entries::Part;
+pub use lines::{Change, Line, Question, Terms};
+pub use numbers::Numbers;

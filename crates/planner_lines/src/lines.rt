@@ -1,157 +1,127 @@
 // Lines of input: a word, and numbers.
-ghost use Rattle.std.specs.Prelude.{◌≤◌, length};
+use crate::entries::Part;
+use crate::numbers::Numbers;
+use cases::{Case, Counts, Person, Position};
+use sets::People;
 
-use cases::{Case, Person, Position};
-
-// The numbers of a line.
-#[derive(Clone, Copy)]
-pub struct Line {
-    numbers: [u32; 64],
-    count: usize,
+// What a line says.
+#[derive(Drop)]
+pub enum Line<'a> {
+    Change(Change<'a>),
+    Question(Question<'a>),
+    Remark,
 }
 
-// A line in the reading: the numbers read, and the one that is being read, if any.
-#[derive(Clone, Copy)]
-struct Reading {
-    line: Line,
-    number: u64,
-    inside: bool,
+// What a line makes of the case.
+#[derive(Drop)]
+pub enum Change<'a> {
+    Empty,
+    Counts(Counts),
+    Entries(Part, Numbers<'a>),
 }
 
-impl Line {
-    // How many numbers a line has room for.
-    pub const MOST: u8 = 64;
+// What a line asks about the case.
+#[derive(Drop)]
+pub enum Question<'a> {
+    Plan(u32),
+    Static(Terms),
+    Decremental(Terms),
+    OneShot(Terms),
+    Dynamic(Terms),
+    Advice(Terms, People, Position),
+    Away(Terms, Position),
+    Follow(Terms, Numbers<'a>),
+    Dodge(Terms, u32),
+}
 
-    // Number i, 0 where there is none.
-    pub fn number(self, i: usize) -> u32 {
-        if 64 <= i {
-            return 0;
+// What a question about absence is asked under: the limit on trials, and how many may be absent.
+#[derive(Clone, Copy, Debug, PartialEq, Eq)]
+pub struct Terms {
+    pub limit: u32,
+    pub t: u32,
+}
+
+impl Terms {
+    fn read(numbers: &mut Numbers<'_>) -> Terms {
+        Terms {
+            limit: numbers.get(),
+            t: numbers.get(),
         }
-        self.numbers[i]
-    }
-
-    pub fn count(self) -> usize {
-        self.count
-    }
-
-    // The position that is written from number i on: its length and its entries.
-    pub fn position(self, i: u8) -> Position {
-        let mut p = Position::start();
-        let mut k: u8 = 0;
-        while (k as usize) < Case::STEPS {
-            p = p.placed(Person(low(self.number((i as usize) + (k as usize) + 1))));
-            k += 1;
-        }
-        p.len = low(self.number(i as usize));
-        p
-    }
-
-    fn more(self, v: u32) -> Line {
-        let at = self.count;
-        if 64 <= at {
-            return self;
-        }
-        let mut next = self;
-        next.numbers[at] = v;
-        next.count = at + 1;
-        next
     }
 }
 
-impl Reading {
-    fn start() -> Reading {
-        let line = Line {
-            numbers: [0; 64],
-            count: 0,
+impl Change<'_> {
+    // The case with this change.
+    pub fn made(self, mut case: Case) -> Case {
+        match self {
+            Change::Empty => Case::empty(),
+            Change::Counts(counts) => {
+                case.counts = counts;
+                case
+            }
+            Change::Entries(part, numbers) => part.filled(case, numbers),
+        }
+    }
+}
+
+impl<'a> From<&'a [u8]> for Line<'a> {
+    // A word counts where a space ends it, but for "empty".
+    fn from(text: &'a [u8]) -> Line<'a> {
+        if text.starts_with(b"empty") {
+            return Line::Change(Change::Empty);
+        }
+        let Some(end) = text.iter().position(|b| *b == b' ') else {
+            return Line::Remark;
         };
-        Reading {
-            line: line,
-            number: 0,
-            inside: false,
-        }
-    }
-
-    // One byte more.
-    fn read(self, b: u8) -> Reading {
-        match b {
-            b'0'..=b'9' => self.digit(b - b'0'),
-            _ => self.done(),
-        }
-    }
-
-    fn digit(self, d: u8) -> Reading {
-        if 429496729 < self.number {
-            return self;
-        }
-        let mut next = self;
-        next.number = self.number * 10 + (d as u64);
-        next.inside = true;
-        next
-    }
-
-    // A number is read whole.
-    fn done(self) -> Reading {
-        if !self.inside {
-            return self;
-        }
-        let line = self.line.more((self.number % 4294967296) as u32);
-        Reading {
-            line: line,
-            number: 0,
-            inside: false,
-        }
-    }
-
-    fn line(self) -> Line {
-        self.line
+        let (word, rest) = text.split_at(end);
+        said(word, Numbers::of(rest))
     }
 }
 
-// The numbers of a line.
-pub fn read_line(text: &[u8]) -> Line {
-    let mut reading = Reading::start();
-    let mut i = 0;
-    while i < text.len() {
-        reading = reading.read(text[i]);
-        i += 1;
+// What a word and numbers say.
+fn said<'a>(word: &[u8], mut numbers: Numbers<'a>) -> Line<'a> {
+    match word {
+        b"counts" => Line::Change(Change::Counts(counts(&mut numbers))),
+        b"people" => Line::Change(Change::Entries(Part::People, numbers)),
+        b"steps" => Line::Change(Change::Entries(Part::Steps, numbers)),
+        b"rows" => Line::Change(Change::Entries(Part::Rows, numbers)),
+        b"rules" => Line::Change(Change::Entries(Part::Rules, numbers)),
+        b"plan" => Line::Question(Question::Plan(numbers.get())),
+        b"static" => Line::Question(Question::Static(Terms::read(&mut numbers))),
+        b"decremental" => Line::Question(Question::Decremental(Terms::read(&mut numbers))),
+        b"one-shot" => Line::Question(Question::OneShot(Terms::read(&mut numbers))),
+        b"dynamic" => Line::Question(Question::Dynamic(Terms::read(&mut numbers))),
+        b"advice" => Line::Question(Question::Advice(
+            Terms::read(&mut numbers),
+            People::from_word(numbers.get()),
+            position(&mut numbers),
+        )),
+        b"away" => Line::Question(Question::Away(
+            Terms::read(&mut numbers),
+            position(&mut numbers),
+        )),
+        b"follow" => Line::Question(Question::Follow(Terms::read(&mut numbers), numbers)),
+        b"dodge" => Line::Question(Question::Dodge(Terms::read(&mut numbers), numbers.get())),
+        _ => Line::Remark,
     }
-    reading.done().line()
 }
 
-// Does a line start with a word?
-pub fn starts(text: &[u8], word: &[u8]) -> bool {
-    let mut i = 0;
-    while i < word.len() {
-        if text.len() <= i {
-            return false;
-        }
-        if text[i] != word[i] {
-            return false;
-        }
-        i += 1;
+fn counts(numbers: &mut Numbers<'_>) -> Counts {
+    Counts {
+        people: numbers.get(),
+        steps: numbers.get(),
+        roles: numbers.get(),
+        tables: numbers.get(),
+        rules: numbers.get(),
     }
-    true
 }
 
-// The first place from `from` on where the byte is `mark`, or the end.
-pub fn find(s: &[u8], from: usize, mark: u8) -> usize
-    requires { from ≤ length s.now }
-    ensures { (from ≤ result) × (result ≤ length s.now) }
-{
-    let mut i = from;
-    while i < s.len() {
-        if s[i] == mark {
-            return i;
-        }
-        i += 1;
+// A position: its length, and all its entries.
+fn position(numbers: &mut Numbers<'_>) -> Position {
+    let len = numbers.get();
+    let mut who = [Person(0); Case::STEPS];
+    for person in who.iter_mut() {
+        *person = Person(numbers.get());
     }
-    i
-}
-
-pub fn low(n: u32) -> u8 {
-    (n % 256) as u8
-}
-
-pub fn word(n: u32) -> u16 {
-    (n % 65536) as u16
+    Position { who, len }
 }

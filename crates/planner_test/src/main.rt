@@ -23,14 +23,11 @@ mod playing;
 mod saying;
 
 use cases::Case;
-use planner::{
-    advice, away, decremental_verdict, dynamic_verdict, one_shot_verdict, plan, static_verdict,
-};
-use planner_lines::{Line, Part, filled, find, read_line, starts, with_counts};
-use playing::{dodge, follow};
+use planner::{decremental_verdict, dynamic_verdict, one_shot_verdict, plan, static_verdict};
+use planner_lines::{Line, Question, Terms};
+use playing::Game;
 use reading::read_full;
-use saying::{say, say_advice, say_away, say_plan, say_verdict};
-use sets::People;
+use saying::Answer;
 use std::io;
 
 fn main(rt: HostRuntime) -> io::Result<()> {
@@ -41,91 +38,50 @@ fn main(rt: HostRuntime) -> io::Result<()> {
 
 fn tries(rt: &impl Print, input: &[u8]) -> io::Result<()> {
     let mut case = Case::empty();
-    let mut at = 0;
-    while at < input.len() {
-        let end = find(input, at, b'\n');
-        case = tried(rt, &input[at..end], case)?;
-        at = end + 1;
+    for line in input.split_inclusive(|b| *b == b'\n') {
+        case = tried(rt, line.strip_suffix(b"\n").unwrap_or(line), case)?;
     }
     Ok(())
 }
 
 // One line: what it makes of the case.
 fn tried(rt: &impl Print, text: &[u8], case: Case) -> io::Result<Case> {
-    let line = read_line(text);
-    let next = made(text, line, case);
-    say(rt, text)?;
-    ask(rt, text, line, next)?;
-    play(rt, text, line, next)?;
-    say(rt, b"\n")?;
+    rt.write_all(text)?;
+    let next = match Line::from(text) {
+        Line::Change(change) => change.made(case),
+        Line::Question(question) => {
+            answer(rt, question, case)?;
+            case
+        }
+        Line::Remark => case,
+    };
+    println!(rt; "")?;
     Ok(next)
 }
 
-fn made(text: &[u8], line: Line, case: Case) -> Case {
-    if starts(text, b"empty") {
-        return Case::empty();
+// Writes the answer to a question about the case.
+fn answer(rt: &impl Print, question: Question<'_>, case: Case) -> io::Result<()> {
+    match question {
+        Question::Plan(limit) => rt.print(Answer::Plan(plan(case, limit))),
+        Question::Static(Terms { limit, t }) => {
+            rt.print(Answer::Verdict(static_verdict(case, t, limit)))
+        }
+        Question::Decremental(Terms { limit, t }) => {
+            rt.print(Answer::Verdict(decremental_verdict(case, t, limit)))
+        }
+        Question::OneShot(Terms { limit, t }) => {
+            rt.print(Answer::Verdict(one_shot_verdict(case, t, limit)))
+        }
+        Question::Dynamic(Terms { limit, t }) => {
+            rt.print(Answer::Verdict(dynamic_verdict(case, t, limit)))
+        }
+        Question::Advice(terms, absent, position) => {
+            rt.print(Answer::Advice(Game { case, terms }.advice(position, absent)))
+        }
+        Question::Away(terms, position) => {
+            rt.print(Answer::Away(Game { case, terms }.away(position)))
+        }
+        Question::Follow(terms, absent) => Game { case, terms }.follow(rt, absent),
+        Question::Dodge(terms, desks) => rt.print(Game { case, terms }.dodge(desks)),
     }
-    if starts(text, b"counts ") {
-        return with_counts(case, line);
-    }
-    if starts(text, b"people ") {
-        return filled(case, Part::People, line);
-    }
-    if starts(text, b"steps ") {
-        return filled(case, Part::Steps, line);
-    }
-    if starts(text, b"rows ") {
-        return filled(case, Part::Rows, line);
-    }
-    if starts(text, b"rules ") {
-        return filled(case, Part::Rules, line);
-    }
-    case
-}
-
-fn ask(rt: &impl Print, text: &[u8], line: Line, case: Case) -> io::Result<()> {
-    let limit = line.number(0);
-    let t = line.number(1);
-    if starts(text, b"plan ") {
-        say_plan(rt, plan(case, limit))?;
-        return Ok(());
-    }
-    if starts(text, b"static ") {
-        say_verdict(rt, static_verdict(case, t, limit))?;
-        return Ok(());
-    }
-    if starts(text, b"decremental ") {
-        say_verdict(rt, decremental_verdict(case, t, limit))?;
-        return Ok(());
-    }
-    if starts(text, b"one-shot ") {
-        say_verdict(rt, one_shot_verdict(case, t, limit))?;
-        return Ok(());
-    }
-    if starts(text, b"dynamic ") {
-        say_verdict(rt, dynamic_verdict(case, t, limit))?;
-    }
-    Ok(())
-}
-
-fn play(rt: &impl Print, text: &[u8], line: Line, case: Case) -> io::Result<()> {
-    let limit = line.number(0);
-    let t = line.number(1);
-    if starts(text, b"advice ") {
-        let absent = People::from_word(line.number(2));
-        say_advice(rt, advice(case, line.position(3), t, absent, limit))?;
-        return Ok(());
-    }
-    if starts(text, b"away ") {
-        say_away(rt, away(case, line.position(2), t, limit))?;
-        return Ok(());
-    }
-    if starts(text, b"follow ") {
-        follow(rt, case, t, limit, line)?;
-        return Ok(());
-    }
-    if starts(text, b"dodge ") {
-        dodge(rt, case, t, limit, line.number(2))?;
-    }
-    Ok(())
 }

@@ -1,48 +1,21 @@
 // Whole games, played with advice and with away.
-use crate::saying::{say, say_advice, spaced};
+use crate::saying::Answer;
 use cases::{Case, Person, Position};
 use planner::{AdviceAnswer, AwayAnswer, advice, away};
-use planner_lines::Line;
+use planner_lines::{Numbers, Terms};
+use refusals::Refusal;
 use sets::People;
-use std::io;
+use std::{fmt, io};
 
-// Asks for advice at the start and follows it, for as long as it names somebody and the line names a set.
-pub fn follow(rt: &impl Print, case: Case, t: u32, limit: u32, line: Line) -> io::Result<()> {
-    let mut p = Position::start();
-    let mut i: u8 = 2;
-    while i < Line::MOST {
-        if line.count() <= (i as usize) {
-            return Ok(());
-        }
-        let absent = People::from_word(line.number(i as usize));
-        match advice_said(rt, case, p, t, absent, limit)? {
-            AdviceAnswer::Person(v, _) => {
-                p = p.placed(v);
-            }
-            _ => {
-                return Ok(());
-            }
-        }
-        i += 1;
-    }
-    Ok(())
-}
-
-fn advice_said(
-    rt: &impl Print,
-    case: Case,
-    p: Position,
-    t: u32,
-    absent: People,
-    limit: u32,
-) -> io::Result<AdviceAnswer> {
-    let answer = advice(case, p, t, absent, limit);
-    say_advice(rt, answer)?;
-    Ok(answer)
+// A case, and what its questions are asked under.
+#[derive(Clone, Copy)]
+pub struct Game {
+    pub case: Case,
+    pub terms: Terms,
 }
 
 // What became of a desk: somebody it wants is kept away, it cannot place somebody, or it completes a plan.
-#[derive(Clone, Copy)]
+#[derive(Clone, Copy, Debug, PartialEq, Eq)]
 enum Played {
     KeptAway,
     Cannot,
@@ -50,112 +23,102 @@ enum Played {
 }
 
 // How many desks there were of each.
-#[derive(Clone, Copy)]
-struct Tally {
+#[derive(Clone, Copy, Debug, Default, PartialEq, Eq)]
+pub struct Tally {
     kept_away: u32,
     cannot: u32,
     completes: u32,
 }
 
-// Plays away against so many desks. A desk is a list of persons, one for each step: those of desk d are the digits of d, the lowest first.
-pub fn dodge(rt: &impl Print, case: Case, t: u32, limit: u32, desks: u32) -> io::Result<()> {
-    let mut tally = Tally {
-        kept_away: 0,
-        cannot: 0,
-        completes: 0,
-    };
-    let mut desk: u32 = 0;
-    while desk < desks {
-        tally = tally.with(play_desk(case, t, limit, desk));
-        desk += 1;
+impl Game {
+    pub fn advice(self, position: Position, absent: People) -> Result<AdviceAnswer, Refusal> {
+        advice(self.case, position, self.terms.t, absent, self.terms.limit)
     }
-    say(rt, b": kept away")?;
-    spaced(rt, tally.kept_away as u64)?;
-    say(rt, b" cannot")?;
-    spaced(rt, tally.cannot as u64)?;
-    say(rt, b" completes")?;
-    spaced(rt, tally.completes as u64)
+
+    pub fn away(self, position: Position) -> Result<AwayAnswer, Refusal> {
+        away(self.case, position, self.terms.t, self.terms.limit)
+    }
+
+    // Asks for advice at the start and follows it, for as long as it names somebody and there is a set of absent people.
+    pub fn follow(self, rt: &impl Print, absent: Numbers<'_>) -> io::Result<()> {
+        let mut position = Position::start();
+        for word in absent {
+            let answer = self.advice(position, People::from_word(word));
+            rt.print(Answer::Advice(answer))?;
+            let Ok(AdviceAnswer::Person(person, _)) = answer else {
+                return Ok(());
+            };
+            position = position.placed(person);
+        }
+        Ok(())
+    }
+
+    // Plays away against so many desks.
+    pub fn dodge(self, desks: u32) -> Tally {
+        (0..desks)
+            .map(|desk| self.played(desk))
+            .fold(Tally::default(), Tally::with)
+    }
+
+    // A desk is a list of persons, one for each step: those of desk d are the digits of d, the lowest first. Before each step away is asked, and names
+    // whom to keep away.
+    fn played(self, desk: u32) -> Played {
+        let people = u32::from(self.case.counts.people);
+        let mut position = Position::start();
+        let mut rest = desk;
+        for _ in 0..self.case.counts.steps {
+            let person = Person((rest.checked_rem(people).unwrap_or(0) & 0xff) as u8);
+            if self.keeps_away(position, person) {
+                return Played::KeptAway;
+            }
+            position = position.placed(person);
+            if !self.allows(position) {
+                return Played::Cannot;
+            }
+            rest = rest.checked_div(people).unwrap_or(0);
+        }
+        Played::Completes
+    }
+
+    fn keeps_away(self, position: Position, person: Person) -> bool {
+        match self.away(position) {
+            Ok(AwayAnswer::People(set, _)) => set.has(person.0),
+            _ => false,
+        }
+    }
+
+    // Is this a valid position? Asked of the case with one step more, so that it may fill the chain.
+    fn allows(self, position: Position) -> bool {
+        let mut case = self.case;
+        if usize::from(case.counts.steps) < Case::STEPS {
+            case.counts.steps += 1;
+        }
+        away(case, position, 0, 0).is_ok()
+    }
 }
 
 impl Tally {
-    fn with(self, what: Played) -> Tally {
-        let mut next = self;
-        match what {
-            Played::KeptAway => {
-                next.kept_away = more(self.kept_away);
-            }
-            Played::Cannot => {
-                next.cannot = more(self.cannot);
-            }
-            Played::Completes => {
-                next.completes = more(self.completes);
-            }
-        }
-        next
+    fn with(mut self, desk: Played) -> Tally {
+        let count = match desk {
+            Played::KeptAway => &mut self.kept_away,
+            Played::Cannot => &mut self.cannot,
+            Played::Completes => &mut self.completes,
+        };
+        *count = count.saturating_add(1);
+        self
     }
 }
 
-fn more(n: u32) -> u32 {
-    if n == u32::MAX { n } else { n + 1 }
-}
-
-// One desk: before each step away is asked, and names whom to keep away.
-fn play_desk(case: Case, t: u32, limit: u32, desk: u32) -> Played {
-    let mut p = Position::start();
-    let mut rest = desk;
-    let mut i: u16 = 0;
-    while i < case.counts.steps {
-        let v = digit(rest, case.counts.people);
-        if named(away(case, p, t, limit), v) {
-            return Played::KeptAway;
-        }
-        p = p.placed(v);
-        if !valid(case, p) {
-            return Played::Cannot;
-        }
-        rest = rest_of(rest, case.counts.people);
-        i += 1;
+impl fmt::Display for Tally {
+    fn fmt<W: fmt::Write>(&self, f: &mut fmt::Formatter<W>) -> fmt::Result {
+        let Tally {
+            kept_away,
+            cannot,
+            completes,
+        } = *self;
+        write!(
+            f,
+            ": kept away {kept_away} cannot {cannot} completes {completes}"
+        )
     }
-    Played::Completes
-}
-
-fn digit(n: u32, base: u16) -> Person {
-    if base == 0 {
-        return Person(0);
-    }
-    Person(((n % (base as u32)) % 256) as u8)
-}
-
-fn rest_of(n: u32, base: u16) -> u32 {
-    if base == 0 {
-        return 0;
-    }
-    n / (base as u32)
-}
-
-fn named(answer: AwayAnswer, v: Person) -> bool {
-    match answer {
-        AwayAnswer::People(set, _) => set.has(v.0),
-        _ => false,
-    }
-}
-
-// Is this a valid position? Asked of the case with one step more, so that it may fill the chain.
-fn valid(case: Case, p: Position) -> bool {
-    match away(longer(case), p, 0, 0) {
-        AwayAnswer::Refused(_) => false,
-        _ => true,
-    }
-}
-
-fn longer(case: Case) -> Case {
-    let steps = case.counts.steps;
-    if Case::STEPS <= (steps as usize) {
-        return case;
-    }
-    let mut counts = case.counts;
-    counts.steps = steps + 1;
-    let mut next = case;
-    next.counts = counts;
-    next
 }

@@ -1,102 +1,102 @@
 // Answers, whole, as the end of a line.
-use cases::{Case, Position};
-use planner::{AdviceAnswer, AwayAnswer, PlanAnswer, PlanSays, VerdictAnswer};
+use cases::{Person, Position};
+use planner::{AdviceAnswer, AwayAnswer, PlanAnswer, VerdictAnswer};
 use refusals::Refusal;
 use sets::People;
-use std::io;
+use std::fmt;
 
-// What the call says, and the plan's length with all its entries.
-pub fn say_plan(rt: &impl Print, answer: PlanAnswer) -> io::Result<()> {
-    let says = answer.says;
-    match says {
-        PlanSays::Refused(why) => say_refused(rt, why)?,
-        PlanSays::Limit(n) => say_trials(rt, b": limit", n)?,
-        PlanSays::No(n) => say_trials(rt, b": no", n)?,
-        PlanSays::Yes(n) => say_trials(rt, b": yes", n)?,
-    }
-    let plan = answer.plan;
-    say(rt, b"; plan")?;
-    spaced(rt, plan.len as u64)?;
-    say(rt, b":")?;
-    say_entries(rt, plan)
+// What a call gave.
+#[derive(Clone, Copy)]
+pub enum Answer {
+    Plan(Result<PlanAnswer, Refusal>),
+    Verdict(Result<VerdictAnswer, Refusal>),
+    Advice(Result<AdviceAnswer, Refusal>),
+    Away(Result<AwayAnswer, Refusal>),
 }
 
-fn say_entries(rt: &impl Print, p: Position) -> io::Result<()> {
-    let mut i = 0;
-    while i < Case::STEPS {
-        let v = p.who[i];
-        spaced(rt, v.0 as u64)?;
-        i += 1;
-    }
-    Ok(())
-}
+// A refusal: its number and its place.
+#[derive(Clone, Copy)]
+struct Refused(Refusal);
 
-pub fn say_verdict(rt: &impl Print, answer: VerdictAnswer) -> io::Result<()> {
-    match answer {
-        VerdictAnswer::Refused(why) => say_refused(rt, why)?,
-        VerdictAnswer::Limit(n) => say_trials(rt, b": limit", n)?,
-        VerdictAnswer::Yes(n) => say_trials(rt, b": yes", n)?,
-        VerdictAnswer::No(shown, n) => say_set(rt, b": no", shown, n)?,
-    }
-    Ok(())
-}
+// A plan: its length, and all its entries. Where there is none, the position at the start stands for it.
+#[derive(Clone, Copy)]
+struct Plan(Position);
 
-pub fn say_advice(rt: &impl Print, answer: AdviceAnswer) -> io::Result<()> {
-    match answer {
-        AdviceAnswer::Refused(why) => say_refused(rt, why)?,
-        AdviceAnswer::Limit(n) => say_trials(rt, b": limit", n)?,
-        AdviceAnswer::Nobody(n) => say_trials(rt, b": none", n)?,
-        AdviceAnswer::Person(v, n) => {
-            say(rt, b": person")?;
-            spaced(rt, v.0 as u64)?;
-            say_trials(rt, b"", n)?;
+// A set: its members, ascending.
+#[derive(Clone, Copy)]
+struct Members(People);
+
+impl fmt::Display for Answer {
+    fn fmt<W: fmt::Write>(&self, f: &mut fmt::Formatter<W>) -> fmt::Result {
+        match *self {
+            Answer::Plan(Ok(answer)) => write_plan(f, answer),
+            Answer::Verdict(Ok(answer)) => write_verdict(f, answer),
+            Answer::Advice(Ok(answer)) => write_advice(f, answer),
+            Answer::Away(Ok(answer)) => write_away(f, answer),
+            Answer::Plan(Err(why)) => write!(f, "{}{}", Refused(why), Plan(Position::start())),
+            Answer::Verdict(Err(why)) | Answer::Advice(Err(why)) | Answer::Away(Err(why)) => {
+                write!(f, "{}", Refused(why))
+            }
         }
     }
-    Ok(())
 }
 
-pub fn say_away(rt: &impl Print, answer: AwayAnswer) -> io::Result<()> {
+fn write_plan<W: fmt::Write>(f: &mut fmt::Formatter<W>, answer: PlanAnswer) -> fmt::Result {
     match answer {
-        AwayAnswer::Refused(why) => say_refused(rt, why)?,
-        AwayAnswer::Limit(n) => say_trials(rt, b": limit", n)?,
-        AwayAnswer::Nobody(n) => say_trials(rt, b": none", n)?,
-        AwayAnswer::People(named, n) => say_set(rt, b": people", named, n)?,
+        PlanAnswer::Limit(n) => write!(f, ": limit trials {n}{}", Plan(Position::start())),
+        PlanAnswer::No(n) => write!(f, ": no trials {n}{}", Plan(Position::start())),
+        PlanAnswer::Yes(plan, n) => write!(f, ": yes trials {n}{}", Plan(plan)),
     }
-    Ok(())
 }
 
-fn say_refused(rt: &impl Print, why: Refusal) -> io::Result<()> {
-    say(rt, b": refused")?;
-    spaced(rt, why.number as u64)?;
-    say(rt, b" at")?;
-    spaced(rt, why.place as u64)
+fn write_verdict<W: fmt::Write>(f: &mut fmt::Formatter<W>, answer: VerdictAnswer) -> fmt::Result {
+    match answer {
+        VerdictAnswer::Limit(n) => write!(f, ": limit trials {n}"),
+        VerdictAnswer::Yes(n) => write!(f, ": yes trials {n}"),
+        VerdictAnswer::No(shown, n) => write!(f, ": no {} trials {n}", Members(shown)),
+    }
 }
 
-fn say_trials(rt: &impl Print, what: &[u8], n: u32) -> io::Result<()> {
-    say(rt, what)?;
-    say(rt, b" trials")?;
-    spaced(rt, n as u64)
+fn write_advice<W: fmt::Write>(f: &mut fmt::Formatter<W>, answer: AdviceAnswer) -> fmt::Result {
+    match answer {
+        AdviceAnswer::Limit(n) => write!(f, ": limit trials {n}"),
+        AdviceAnswer::Nobody(n) => write!(f, ": none trials {n}"),
+        AdviceAnswer::Person(Person(v), n) => write!(f, ": person {v} trials {n}"),
+    }
 }
 
-// The set is written as its members, ascending.
-fn say_set(rt: &impl Print, what: &[u8], set: People, n: u32) -> io::Result<()> {
-    say(rt, what)?;
-    say(rt, b" {")?;
-    let mut v: u8 = 0;
-    while v < People::WIDTH {
-        if set.has(v) {
-            spaced(rt, v as u64)?;
+fn write_away<W: fmt::Write>(f: &mut fmt::Formatter<W>, answer: AwayAnswer) -> fmt::Result {
+    match answer {
+        AwayAnswer::Limit(n) => write!(f, ": limit trials {n}"),
+        AwayAnswer::Nobody(n) => write!(f, ": none trials {n}"),
+        AwayAnswer::People(named, n) => write!(f, ": people {} trials {n}", Members(named)),
+    }
+}
+
+impl fmt::Display for Refused {
+    fn fmt<W: fmt::Write>(&self, f: &mut fmt::Formatter<W>) -> fmt::Result {
+        let Refusal { number, place } = self.0;
+        write!(f, ": refused {number} at {place}")
+    }
+}
+
+impl fmt::Display for Plan {
+    fn fmt<W: fmt::Write>(&self, f: &mut fmt::Formatter<W>) -> fmt::Result {
+        let len = self.0.len;
+        write!(f, "; plan {len}:")?;
+        for Person(v) in self.0.who {
+            write!(f, " {v}")?;
         }
-        v += 1;
+        Ok(())
     }
-    say_trials(rt, b" }", n)
 }
 
-pub fn spaced(rt: &impl Print, n: u64) -> io::Result<()> {
-    say(rt, b" ")?;
-    print!(rt; "{n}")
-}
-
-pub fn say(rt: &impl Print, text: &[u8]) -> io::Result<()> {
-    rt.write_all(text)
+impl fmt::Display for Members {
+    fn fmt<W: fmt::Write>(&self, f: &mut fmt::Formatter<W>) -> fmt::Result {
+        write!(f, "{{")?;
+        for v in (0..People::WIDTH).filter(|v| self.0.has(*v)) {
+            write!(f, " {v}")?;
+        }
+        write!(f, " }}")
+    }
 }

@@ -1,7 +1,8 @@
 // Files made in memory, for programs that try things on them: the campfire and others, changed byte by byte.
 #![tactic(auto)]
 
-// A file of at most 1,100 bytes, of which the first `len` count.
+// A file of at most 1,100 bytes, of which the first `len` count. An array with its length, and no vector: making a file takes no memory, so that it
+// cannot fail, and a file is made byte by byte past its end too.
 #[derive(Clone, Copy)]
 pub struct Made {
     data: [u8; 1100],
@@ -112,65 +113,60 @@ pub fn nobody() -> Made {
 
 // A header, with zeros behind it up to its total.
 fn empty(h: Head) -> Made {
-    let file = Made {
+    let mut file = Made {
         data: [0; 1100],
         len: h.total as usize,
     };
-    file.word(0, 1)
-        .word(2, h.people)
-        .word(4, h.steps)
-        .word(6, h.roles)
-        .word(8, h.tables)
-        .word(10, h.rules)
-        .word(12, h.people_at)
-        .word(14, h.steps_at)
-        .word(16, h.tables_at)
-        .word(18, h.rules_at)
-        .word(20, h.total)
+    let words = [
+        1,
+        h.people,
+        h.steps,
+        h.roles,
+        h.tables,
+        h.rules,
+        h.people_at,
+        h.steps_at,
+        h.tables_at,
+        h.rules_at,
+        h.total,
+    ];
+    for (i, word) in words.iter().enumerate() {
+        file = file.word(2 * i, *word);
+    }
+    file
 }
 
 impl Made {
     // With another byte at a place.
     pub fn byte(self, at: usize, v: u8) -> Made {
-        if 1100 <= at {
-            return self;
-        }
         let mut next = self;
-        next.data[at] = v;
+        if let Some(byte) = next.data.get_mut(at) {
+            *byte = v;
+        }
         next
     }
 
     // With another 16-bit number at a place.
     pub fn word(self, at: usize, v: u16) -> Made {
-        if 1100 <= at {
-            return self;
-        }
-        self.byte(at, (v % 256) as u8).byte(at + 1, (v / 256) as u8)
+        let [low, high] = v.to_le_bytes();
+        self.byte(at, low).byte(at.saturating_add(1), high)
     }
 
     // With the same byte at `many` places, from `at` on, four bytes apart.
     pub fn each(self, at: usize, many: u8, v: u8) -> Made {
-        let mut next = self;
-        let mut i: u8 = 0;
-        while i < many {
-            next = next.fourth(at, i, v);
-            i += 1;
-        }
-        next
-    }
-
-    fn fourth(self, at: usize, i: u8, v: u8) -> Made {
-        if 1100 <= at {
-            return self;
-        }
-        self.byte(at + 4 * (i as usize), v)
+        (0..many).fold(
+            self,
+            |file, i| file.byte(at.saturating_add(4 * (i as usize)), v),
+        )
     }
 
     // With another length.
     pub fn long(self, len: usize) -> Made {
-        let mut next = self;
-        next.len = len;
-        next
+        Made { len, ..self }
+    }
+
+    pub fn bytes(&self) -> &[u8] {
+        first(&self.data, self.len)
     }
 
     // Its bytes are the first `len` of these.
@@ -185,8 +181,5 @@ impl Made {
 
 // The first `len` bytes, or all where there are fewer.
 pub fn first(data: &[u8], len: usize) -> &[u8] {
-    if data.len() < len {
-        return data;
-    }
-    &data[0..len]
+    data.get(..len).unwrap_or(data)
 }

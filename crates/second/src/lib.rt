@@ -6,13 +6,14 @@
 #![tactic(auto)]
 
 mod absences;
+mod answers;
 mod passes;
 mod play;
 mod strikes;
 mod tries;
 
 pub use absences::list_sets;
+pub use answers::{Answer, Five, MOST_TRIALS, Question};
 pub use passes::{decremental, dynamic, first_plan, has_room, static_answer};
 pub use play::{advice, away, judged_absent, judged_position, node_of};
 pub use strikes::one_shot;
-pub use tries::{Answer, Five, MOST_TRIALS, within};

@@ -1,229 +1,205 @@
 // The questions but one-shot. Every pass goes over the nodes from the last one back, so that a node's kids are done before it.
-use crate::tries::{Answer, member, try_people, without};
-use second_files::{plus, times};
-use second_positions::{
-    AWAY, DESK, DYNAMIC, MOST_CELLS, PLAN, SLATE, all_steps, cell_at, cell_in, from_last, is_full,
-    kid, nodes, placed, put_cell, set, sets,
-};
+use crate::answers::Answer;
+use crate::tries::{EVERYBODY, member, try_people, without};
+use second_files::{plus, rest, times};
+use second_positions::{Cell, Listed, MOST_CELLS, Placed, Slate, cell_in, put_cell};
 
-// Plans that use none of the absent, from every node.
-pub fn plan_pass(slate: &mut [usize; SLATE], absent: usize) {
-    let n = nodes(slate);
-    let mut i: usize = 0;
-    while i < n {
-        plan_at(slate, from_last(slate, i), absent);
-        i += 1;
+// A pass: what a node comes to follows from the cells behind it. A full position is won.
+pub fn pass<F: Fn(&[Cell], usize) -> Cell>(listed: &Listed, cells: &mut [Cell], turn: F)
+    requires { F.IsAlwaysCallable turn }
+{
+    for node in (0..listed.nodes().len()).rev() {
+        let done = if listed.is_full(node) {
+            Cell::WON
+        } else {
+            turn(cells, node)
+        };
+        put_cell(cells, node, done);
     }
 }
 
-fn plan_at(slate: &mut [usize; SLATE], node: usize, absent: usize) {
-    let at = cell_at(PLAN, node, 1, 0);
-    if is_full(slate, node) {
-        put_cell(slate, at, true, 0);
-    } else {
-        let t = try_people(slate, node, absent, 1, PLAN, 1, 0);
-        put_cell(slate, at, 0 < t.found, t.trials);
-    }
+// Plans that use none of the absent, from every node.
+pub fn plan_pass(listed: &Listed, plan: &mut [Cell], absent: usize) {
+    pass(listed, plan, |cells, node| {
+        try_people(listed, node, absent, 1, |kid| cell_in(cells, kid)).cell()
+    });
 }
 
 // The plan question.
-pub fn first_plan(slate: &mut [usize; SLATE]) -> Answer {
-    plan_pass(slate, 0);
-    let c = cell_in(slate, PLAN);
-    if c.won {
-        Answer {
-            says: 1,
-            shown: plan_shown(slate),
-            trials: c.trials,
+pub fn first_plan(slate: &mut Slate) -> Answer {
+    plan_pass(&slate.listed, &mut slate.cells.plan, 0);
+    let start = cell_in(&slate.cells.plan, 0);
+    if start.won {
+        Answer::Yes {
+            shown: plan_shown(&slate.listed, &slate.cells.plan).who,
+            trials: start.trials,
         }
     } else {
-        Answer {
-            says: 0,
+        Answer::No {
             shown: 0,
-            trials: c.trials,
+            trials: start.trials,
         }
     }
 }
 
-// The persons of the first plan: step by step the lowest from whom a plan can still be reached.
-fn plan_shown(slate: &[usize; SLATE]) -> usize {
-    let n = all_steps(slate);
-    let mut who = 0;
+// The first plan: step by step the lowest person from whom a plan can still be reached.
+fn plan_shown(listed: &Listed, plan: &[Cell]) -> Placed {
+    let mut placed = Placed::START;
     let mut node = 0;
-    let mut step: usize = 0;
-    while step < n {
-        let t = try_people(slate, node, 0, 1, PLAN, 1, 0);
-        let v = member(t.good);
-        who = placed(who, step, v);
-        node = kid(slate, node, v);
-        step += 1;
+    for _ in 0..listed.steps {
+        let tried = try_people(listed, node, 0, 1, |kid| cell_in(plan, kid));
+        let Some(v) = member(tried.good) else {
+            return placed;
+        };
+        let Some(kid) = listed.kid(node, v) else {
+            return placed;
+        };
+        placed = placed.with(v);
+        node = kid;
     }
-    who
+    placed
 }
 
 // The static question: a plan for every set, in ascending number, up to the first set without one.
-pub fn static_answer(slate: &mut [usize; SLATE]) -> Answer {
-    let n = sets(slate);
+pub fn static_answer(slate: &mut Slate) -> Answer {
     let mut trials = 0;
-    let mut a: usize = 0;
-    while a < n {
-        plan_pass(slate, set(slate, a));
-        let c = cell_in(slate, PLAN);
-        trials = plus(trials, c.trials);
-        if !c.won {
-            return Answer {
-                says: 0,
-                shown: set(slate, a),
+    for set in slate.listed.sets() {
+        plan_pass(&slate.listed, &mut slate.cells.plan, *set);
+        let start = cell_in(&slate.cells.plan, 0);
+        trials = plus(trials, start.trials);
+        if !start.won {
+            return Answer::No {
+                shown: *set,
                 trials: trials,
             };
         }
-        a += 1;
     }
-    Answer {
-        says: 1,
+    Answer::Yes {
         shown: 0,
         trials: trials,
     }
 }
 
 // The dynamic question, for every node: is there for each set of at most t absentees somebody present who leaves the desk a win?
-pub fn dynamic(slate: &mut [usize; SLATE], t: usize) -> Answer {
-    let n = nodes(slate);
-    let mut i: usize = 0;
-    while i < n {
-        dynamic_at(slate, from_last(slate, i), t);
-        i += 1;
-    }
-    let c = cell_in(slate, DYNAMIC);
-    if c.won {
-        return Answer {
-            says: 1,
+pub fn dynamic(slate: &mut Slate, t: usize) -> Answer {
+    let listed = &slate.listed;
+    pass(listed, &mut slate.cells.dynamic, |cells, node| {
+        let all = try_people(listed, node, 0, EVERYBODY, |kid| cell_in(cells, kid));
+        let walk = try_people(listed, node, 0, plus(t, 1), |kid| cell_in(cells, kid));
+        Cell {
+            won: meets_every_set(listed, all.good),
+            trials: walk.trials,
+        }
+    });
+    let start = cell_in(&slate.cells.dynamic, 0);
+    if start.won {
+        return Answer::Yes {
             shown: 0,
-            trials: c.trials,
+            trials: start.trials,
         };
     }
-    let good = try_people(slate, 0, 0, 100, DYNAMIC, 1, 0);
-    Answer {
-        says: 0,
-        shown: good.good,
-        trials: c.trials,
-    }
-}
-
-fn dynamic_at(slate: &mut [usize; SLATE], node: usize, t: usize) {
-    let at = cell_at(DYNAMIC, node, 1, 0);
-    if is_full(slate, node) {
-        put_cell(slate, at, true, 0);
-    } else {
-        let all = try_people(slate, node, 0, 100, DYNAMIC, 1, 0);
-        let won = meets_every_set(slate, all.good);
-        let walk = try_people(slate, node, 0, plus(t, 1), DYNAMIC, 1, 0);
-        put_cell(slate, at, won, walk.trials);
+    let all = try_people(listed, 0, 0, EVERYBODY, |kid| {
+        cell_in(&slate.cells.dynamic, kid)
+    });
+    Answer::No {
+        shown: all.good,
+        trials: start.trials,
     }
 }
 
 // Whichever set is absent, is one of these people present?
-fn meets_every_set(slate: &[usize; SLATE], good: usize) -> bool {
-    let n = sets(slate);
-    let mut a: usize = 0;
-    while a < n {
-        if without(good, set(slate, a)) == 0 {
-            return false;
-        }
-        a += 1;
-    }
-    true
+fn meets_every_set(listed: &Listed, good: usize) -> bool {
+    listed.sets().iter().all(|set| without(good, *set) != 0)
 }
 
 // Is there room for a cell for each node with each set?
-pub fn has_room(slate: &[usize; SLATE]) -> bool {
-    times(nodes(slate), sets(slate)) <= MOST_CELLS
+pub fn has_room(listed: &Listed) -> bool {
+    times(listed.nodes().len(), listed.sets().len()) <= MOST_CELLS
 }
 
 // The decremental question, for every node with every set. The desk's cells are those of one node at a time, in the end those of the start.
-pub fn decremental(slate: &mut [usize; SLATE]) -> Answer {
-    let n = nodes(slate);
-    let mut i: usize = 0;
-    while i < n {
-        let node = from_last(slate, i);
-        desk_turns(slate, node);
-        away_turns(slate, node);
-        i += 1;
+pub fn decremental(slate: &mut Slate) -> Answer {
+    let listed = &slate.listed;
+    let cells = &mut slate.cells;
+    for node in (0..listed.nodes().len()).rev() {
+        desk_turns(listed, &mut cells.desk, &cells.away, node);
+        away_turns(listed, &cells.desk, &mut cells.away, node);
     }
-    let c = cell_in(slate, AWAY);
-    if c.won {
-        return Answer {
-            says: 1,
+    let start = cell_in(&cells.away, 0);
+    if start.won {
+        return Answer::Yes {
             shown: 0,
-            trials: c.trials,
+            trials: start.trials,
         };
     }
-    let r = away_turn(slate, 0);
-    Answer {
-        says: 0,
-        shown: r.set,
-        trials: c.trials,
+    let enlarged = away_turn(listed, &cells.desk, 0);
+    Answer::No {
+        shown: enlarged.beaten_by.unwrap_or(0),
+        trials: start.trials,
     }
 }
 
 // The desk's turn at a node, for each set of absentees.
-fn desk_turns(slate: &mut [usize; SLATE], node: usize) {
-    let wide = sets(slate);
-    let mut a: usize = 0;
-    while a < wide {
-        let t = try_people(slate, node, set(slate, a), 1, AWAY, wide, a);
-        put_cell(slate, cell_at(DESK, 0, wide, a), 0 < t.found, t.trials);
-        a += 1;
+fn desk_turns(listed: &Listed, desk: &mut [Cell], away: &[Cell], node: usize) {
+    let wide = listed.sets().len();
+    for (a, set) in listed.sets().iter().enumerate() {
+        let tried = try_people(listed, node, *set, 1, |kid| {
+            cell_in(away, cell_at(kid, wide, a))
+        });
+        put_cell(desk, a, tried.cell());
     }
 }
 
 // The away side's turn at a node, from each set of absentees.
-fn away_turns(slate: &mut [usize; SLATE], node: usize) {
-    let wide = sets(slate);
-    let mut a: usize = 0;
-    while a < wide {
-        let at = cell_at(AWAY, node, wide, a);
-        if is_full(slate, node) {
-            put_cell(slate, at, true, 0);
+fn away_turns(listed: &Listed, desk: &[Cell], away: &mut [Cell], node: usize) {
+    let wide = listed.sets().len();
+    for a in 0..wide {
+        let done = if listed.is_full(node) {
+            Cell::WON
         } else {
-            let r = away_turn(slate, a);
-            put_cell(slate, at, r.held, r.trials);
-        }
-        a += 1;
+            away_turn(listed, desk, a).cell()
+        };
+        put_cell(away, cell_at(node, wide, a), done);
     }
 }
 
-// What enlarging a set comes to: whether the desk holds against every larger set, else the first that beats it, and the trials.
+// The cell of a node with set a, where each node has `wide` cells.
+fn cell_at(node: usize, wide: usize, a: usize) -> usize {
+    plus(times(node, wide), a)
+}
+
+// What enlarging a set comes to: the first larger set that beats the desk, if one does, and the trials.
 #[derive(Clone, Copy)]
 struct Enlarged {
-    held: bool,
-    set: usize,
+    beaten_by: Option<usize>,
     trials: usize,
 }
 
-fn away_turn(slate: &[usize; SLATE], a: usize) -> Enlarged {
-    let wide = sets(slate);
-    let current = set(slate, a);
+impl Enlarged {
+    fn cell(self) -> Cell {
+        Cell {
+            won: self.beaten_by.is_none(),
+            trials: self.trials,
+        }
+    }
+}
+
+fn away_turn(listed: &Listed, desk: &[Cell], a: usize) -> Enlarged {
+    let current = listed.set(a);
     let mut trials = 0;
-    let mut b = a;
-    while b < wide {
-        let larger = set(slate, b);
-        if without(current, larger) == 0 {
-            let c = cell_in(slate, cell_at(DESK, 0, wide, b));
-            trials = plus(trials, c.trials);
-            if !c.won {
+    for (larger, cell) in rest(listed.sets(), a).iter().zip(rest(desk, a)) {
+        if without(current, *larger) == 0 {
+            trials = plus(trials, cell.trials);
+            if !cell.won {
                 return Enlarged {
-                    held: false,
-                    set: larger,
+                    beaten_by: Some(*larger),
                     trials: trials,
                 };
             }
         }
-        b += 1;
     }
     Enlarged {
-        held: true,
-        set: 0,
+        beaten_by: None,
         trials: trials,
     }
 }

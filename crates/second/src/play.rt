@@ -1,78 +1,75 @@
 // Advice and away, from the cells of the dynamic question, and what is turned away before them.
-use crate::tries::{Answer, member, try_people};
-use second_files::{ROOM, Turned, down, people, plus, size, steps, turned_by};
-use second_positions::{DYNAMIC, SLATE, keeps, kid, may, person_of};
+use crate::answers::Answer;
+use crate::tries::{member, try_people};
+use second_files::{File, Reason, Turned, down, plus, size};
+use second_positions::{Listed, Placed, Slate, cell_in, keeps, may};
 
 // A position judged by 13.
-pub fn judged_position(file: &[u8; ROOM], who: usize, length: usize) -> Turned {
-    if steps(file) <= length {
-        return turned_by(13, steps(file));
+pub fn judged_position(file: &File, placed: Placed) -> Result<(), Turned> {
+    if file.steps() <= placed.length {
+        return Err(Reason::Position.at(file.steps()));
     }
-    let mut i: usize = 0;
-    while i < length {
-        if !may(file, person_of(who, i), i) {
-            return turned_by(13, i);
+    for i in 0..placed.length {
+        if !may(file, placed.person(i), i) || !keeps(file, placed.up_to(i + 1)) {
+            return Err(Reason::Position.at(i));
         }
-        if !keeps(file, who, plus(i, 1)) {
-            return turned_by(13, i);
-        }
-        i += 1;
     }
-    turned_by(0, 0)
+    Ok(())
 }
 
 // An absence set judged by 14.
-pub fn judged_absent(file: &[u8; ROOM], t: usize, absent: usize) -> Turned {
-    if down(absent, people(file)) != 0 {
-        return turned_by(14, 0);
+pub fn judged_absent(file: &File, t: usize, absent: usize) -> Result<(), Turned> {
+    if down(absent, file.people()) != 0 || t < size(absent) {
+        Err(Reason::Absence.at(0))
+    } else {
+        Ok(())
     }
-    if t < size(absent) {
-        return turned_by(14, 0);
-    }
-    turned_by(0, 0)
 }
 
-// The node of a valid position.
-pub fn node_of(slate: &[usize; SLATE], who: usize, length: usize) -> usize {
+// The node of a position, if it is a valid one.
+pub fn node_of(listed: &Listed, placed: Placed) -> Option<usize> {
     let mut node = 0;
-    let mut i: usize = 0;
-    while i < length {
-        node = kid(slate, node, person_of(who, i));
-        i += 1;
+    for i in 0..placed.length {
+        node = listed.kid(node, placed.person(i))?;
     }
-    node
+    Some(node)
 }
 
 // The lowest present person who leaves a good position.
-pub fn advice(slate: &[usize; SLATE], node: usize, absent: usize) -> Answer {
-    let t = try_people(slate, node, absent, 1, DYNAMIC, 1, 0);
-    if t.found == 0 {
-        return Answer {
-            says: 0,
+pub fn advice(slate: &Slate, node: usize, absent: usize) -> Answer {
+    let dynamic = &slate.cells.dynamic;
+    let tried = try_people(&slate.listed, node, absent, 1, |kid| cell_in(dynamic, kid));
+    match member(tried.good) {
+        None => Answer::No {
             shown: 0,
-            trials: t.trials,
-        };
-    }
-    Answer {
-        says: 1,
-        shown: member(t.good),
-        trials: t.trials,
+            trials: tried.trials,
+        },
+        Some(v) => Answer::Yes {
+            shown: v,
+            trials: tried.trials,
+        },
     }
 }
 
 // All people who leave a good position, if they are at most t.
-pub fn away(slate: &[usize; SLATE], node: usize, t: usize) -> Answer {
-    let r = try_people(slate, node, 0, plus(t, 1), DYNAMIC, 1, 0);
-    if t < r.found {
-        return Answer {
-            says: 0,
+pub fn away(slate: &Slate, node: usize, t: usize) -> Answer {
+    let dynamic = &slate.cells.dynamic;
+    let tried = try_people(
+        &slate.listed,
+        node,
+        0,
+        plus(t, 1),
+        |kid| cell_in(dynamic, kid),
+    );
+    if t < tried.found {
+        Answer::No {
             shown: 0,
-            trials: r.trials,
-        };
-    }
-    Answer {
-        says: 1,
-        shown: r.good,
-        trials: r.trials,
+            trials: tried.trials,
+        }
+    } else {
+        Answer::Yes {
+            shown: tried.good,
+            trials: tried.trials,
+        }
     }
 }

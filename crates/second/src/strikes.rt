@@ -1,104 +1,74 @@
 // The one-shot question. What a strike comes to is asked for every node first, set by set, and then what the turns before it come to.
-use crate::passes::plan_pass;
-use crate::tries::{Answer, try_people};
+use crate::answers::Answer;
+use crate::passes::{pass, plan_pass};
+use crate::tries::try_people;
 use second_files::plus;
-use second_positions::{
-    ONE_SHOT, PLAN, SLATE, STRUCK, cell_at, cell_in, from_last, is_full, nodes, put_cell, set, sets,
-};
+use second_positions::{Cell, Cells, Listed, Slate, cell_in};
 
-pub fn one_shot(slate: &mut [usize; SLATE]) -> Answer {
-    let strike = strike_everywhere(slate);
-    wait_everywhere(slate);
-    let pass = try_people(slate, 0, 0, 1, ONE_SHOT, 1, 0);
-    let c = cell_in(slate, ONE_SHOT);
-    if c.won {
-        return Answer {
-            says: 1,
+pub fn one_shot(slate: &mut Slate) -> Answer {
+    let listed = &slate.listed;
+    let strike = strike_everywhere(listed, &mut slate.cells);
+    wait_everywhere(listed, &mut slate.cells);
+    let start = cell_in(&slate.cells.one_shot, 0);
+    if start.won {
+        return Answer::Yes {
             shown: 0,
-            trials: c.trials,
+            trials: start.trials,
         };
     }
     // Where the pass beats the desk, no strike is tried.
-    Answer {
-        says: 0,
-        shown: if pass.found == 0 { 0 } else { strike },
-        trials: c.trials,
+    let passed = try_people(listed, 0, 0, 1, |kid| cell_in(&slate.cells.one_shot, kid));
+    Answer::No {
+        shown: if passed.found == 0 { 0 } else { strike },
+        trials: start.trials,
     }
 }
 
 // Every set struck at every node, in ascending number. Which is the first to beat the desk at the start? The empty one where none does.
-fn strike_everywhere(slate: &mut [usize; SLATE]) -> usize {
-    hold_everywhere(slate);
-    let n = sets(slate);
+fn strike_everywhere(listed: &Listed, cells: &mut Cells) -> usize {
+    // No strike yet: the desk holds, in no trials.
+    for struck in cells.struck.iter_mut() {
+        *struck = Cell::WON;
+    }
     let mut strike = 0;
-    let mut a: usize = 0;
-    while a < n {
-        let before = cell_in(slate, STRUCK);
-        plan_pass(slate, set(slate, a));
-        add_strike(slate);
-        let after = cell_in(slate, STRUCK);
-        if before.won {
-            if !after.won {
-                strike = set(slate, a);
-            }
+    for set in listed.sets() {
+        let before = cell_in(&cells.struck, 0);
+        plan_pass(listed, &mut cells.plan, *set);
+        add_strike(listed, &mut cells.struck, &cells.plan);
+        if before.won && !cell_in(&cells.struck, 0).won {
+            strike = *set;
         }
-        a += 1;
     }
     strike
 }
 
-// No strike yet: the desk holds, in no trials.
-fn hold_everywhere(slate: &mut [usize; SLATE]) {
-    let n = nodes(slate);
-    let mut node: usize = 0;
-    while node < n {
-        put_cell(slate, cell_at(STRUCK, node, 1, 0), true, 0);
-        node += 1;
-    }
-}
-
-// One strike more at every node: its people stay away to the end, so that it comes to a plan without them.
-fn add_strike(slate: &mut [usize; SLATE]) {
-    let n = nodes(slate);
-    let mut node: usize = 0;
-    while node < n {
-        add_strike_at(slate, node);
-        node += 1;
-    }
-}
-
-// Behind a strike that beats the desk no other is tried.
-fn add_strike_at(slate: &mut [usize; SLATE], node: usize) {
-    let at = cell_at(STRUCK, node, 1, 0);
-    let before = cell_in(slate, at);
-    if before.won {
-        let c = cell_in(slate, cell_at(PLAN, node, 1, 0));
-        put_cell(slate, at, c.won, plus(before.trials, c.trials));
-    }
-}
-
-// The turns of the away side that has not struck, at every node from the last one back.
-fn wait_everywhere(slate: &mut [usize; SLATE]) {
-    let n = nodes(slate);
-    let mut i: usize = 0;
-    while i < n {
-        wait_at(slate, from_last(slate, i));
-        i += 1;
-    }
-}
-
-// The pass first, after which everybody is present; and where the desk wins then, the strikes.
-fn wait_at(slate: &mut [usize; SLATE], node: usize) {
-    let at = cell_at(ONE_SHOT, node, 1, 0);
-    if is_full(slate, node) {
-        put_cell(slate, at, true, 0);
-    } else {
-        let pass = try_people(slate, node, 0, 1, ONE_SHOT, 1, 0);
-        if pass.found == 0 {
-            put_cell(slate, at, false, pass.trials);
-        } else {
-            let c = cell_in(slate, cell_at(STRUCK, node, 1, 0));
-            put_cell(slate, at, c.won, plus(pass.trials, c.trials));
+// One strike more at every node: its people stay away to the end, so that it comes to a plan without them. Behind a strike that beats the desk no other
+// is tried.
+fn add_strike(listed: &Listed, struck: &mut [Cell], plan: &[Cell]) {
+    let nodes = listed.nodes().len();
+    for (before, plan) in struck.iter_mut().zip(plan).take(nodes) {
+        if before.won {
+            *before = Cell {
+                won: plan.won,
+                trials: plus(before.trials, plan.trials),
+            };
         }
     }
+}
+
+// The turns of the away side that has not struck: the pass first, after which everybody is present; and where the desk wins then, the strikes.
+fn wait_everywhere(listed: &Listed, cells: &mut Cells) {
+    let struck = &cells.struck;
+    pass(listed, &mut cells.one_shot, |waiting, node| {
+        let passed = try_people(listed, node, 0, 1, |kid| cell_in(waiting, kid));
+        if passed.found == 0 {
+            passed.cell()
+        } else {
+            let strike = cell_in(struck, node);
+            Cell {
+                won: strike.won,
+                trials: plus(passed.trials, strike.trials),
+            }
+        }
+    });
 }

@@ -3,82 +3,78 @@
 #![tactic(auto)]
 
 use cases::Case;
-use second::Answer;
-use second_calls::{ask_advice, ask_away, ask_judge, ask_verdict, judged_told, refused_told};
-use second_draws::{below, draw};
+use second::{Answer, Question};
+use second_calls::{ask_advice, ask_away, ask_judge, ask_question, judged_told};
+use second_draws::{Chance, draw};
 use second_exports::try_refused_exported;
 use second_faults::damage;
-use second_files::{ROOM, Turned, first, judged, plus, turned_by};
-use second_memory::{case_of, position_of, same_case, to_32};
+use second_files::{File, Reason, Turned, first, plus};
+use second_memory::case_of;
+use second_positions::Placed;
 use second_shapes::tiny;
-use second_tally::{ONE_FAULT, TALLY, TWO_FAULTS, compare, count, expect};
-use second_texts::try_refused_text;
+use second_tally::{Asked, Tally, compare, expect};
+use second_texts::{input_of, try_refused_text};
 use second_trips::{try_parts, try_refused_write};
 use std::io;
 
-// A small file with one fault, or with two where the second number is not 0.
+// A small file with one fault, or with two.
 pub fn try_damaged(
     rt: &impl Print,
-    seed: &mut [usize; 1],
-    tally: &mut [usize; TALLY],
-    fault: usize,
-    other: usize,
+    chance: &mut Chance,
+    tally: &mut Tally,
+    fault: Reason,
+    other: Option<Reason>,
 ) -> io::Result<()> {
-    let mut file = [0u8; ROOM];
-    let shape = tiny(seed);
-    let good = draw(seed, &mut file, shape);
-    let mut length = damage(seed, &mut file, good, fault);
-    if other == 0 {
-        count(tally, ONE_FAULT);
-    } else {
-        length = damage(seed, &mut file, length, other);
-        count(tally, TWO_FAULTS);
+    let shape = tiny(chance);
+    let mut file = draw(chance, shape);
+    damage(chance, &mut file, fault);
+    match other {
+        None => tally.one_fault.more(),
+        Some(other) => {
+            damage(chance, &mut file, other);
+            tally.two_faults.more();
+        }
     }
-    try_file(rt, seed, tally, &file, length)
+    try_file(rt, chance, tally, &file)
 }
 
 fn try_file(
     rt: &impl Print,
-    seed: &mut [usize; 1],
-    tally: &mut [usize; TALLY],
-    file: &[u8; ROOM],
-    length: usize,
+    chance: &mut Chance,
+    tally: &mut Tally,
+    file: &File,
 ) -> io::Result<()> {
-    let ours = judged(file, length);
-    let lent = first(file, length);
+    let judged = file.judged();
+    let ours = Answer::from(judged);
     compare(
         rt,
         tally,
         file,
-        length,
-        7,
-        refused_told(ours),
-        ask_judge(lent),
+        Asked::Judging,
+        ours,
+        ask_judge(file.lent()),
     )?;
-    let r = files::read(lent);
-    let theirs = r.judged;
+    let read = files::read(file.lent());
     compare(
         rt,
         tally,
         file,
-        length,
-        7,
-        refused_told(ours),
-        judged_told(theirs),
+        Asked::Judging,
+        ours,
+        judged_told(read.judged),
     )?;
-    if ours.number != 0 {
-        let held = r.held;
-        expect(rt, tally, file, length, 7, same_case(held, Case::empty()))?;
-    }
-    try_parts(rt, tally, file, length, ours.number == 0)?;
-    if ours.number != 0 {
-        try_refused_exported(rt, seed, tally, file, length, ours)?;
-        try_texts(rt, seed, tally, file, length, ours)?;
-    }
-    if in_memory(ours) {
-        let case = case_of(seed, file, 4294967296);
-        try_refused_case(rt, seed, tally, file, length, case, refused_told(ours))?;
-        try_refused_write(rt, tally, file, length, case, refused_told(ours))?;
+    try_parts(rt, tally, file, judged.is_ok())?;
+    let Err(turned) = judged else {
+        return Ok(());
+    };
+    let empty = read.held == Case::empty();
+    expect(rt, tally, file, Asked::Judging, empty)?;
+    try_refused_exported(rt, chance, tally, file, turned)?;
+    try_texts(rt, chance, tally, file, turned)?;
+    if is_met_in_memory(turned.reason) {
+        let case = case_of(chance, file, 4294967296);
+        try_refused_case(rt, chance, tally, file, case, ours)?;
+        try_refused_write(rt, tally, file, case, ours)?;
     }
     Ok(())
 }
@@ -86,73 +82,53 @@ fn try_file(
 // The text of the file, whatever t is; and now and then of fewer bytes than stand before a file.
 fn try_texts(
     rt: &impl Print,
-    seed: &mut [usize; 1],
-    tally: &mut [usize; TALLY],
-    file: &[u8; ROOM],
-    length: usize,
-    ours: Turned,
+    chance: &mut Chance,
+    tally: &mut Tally,
+    file: &File,
+    turned: Turned,
 ) -> io::Result<()> {
-    let t = below(seed, 40);
-    let limit = below(seed, 4294967296);
-    let all = plus(6, length);
-    try_refused_text(rt, seed, tally, file, length, t, limit, all, ours)?;
-    if below(seed, 8) == 0 {
-        let n = below(seed, 30);
-        try_refused_text(rt, seed, tally, file, length, t, limit, n, turned_by(1, 0))?;
+    let t = chance.below(40);
+    let limit = chance.below(4294967296);
+    let input = input_of(file, t, limit);
+    let all = first(&input, plus(6, file.length));
+    try_refused_text(rt, chance, tally, file, all, turned)?;
+    if chance.below(8) == 0 {
+        let few = first(&input, chance.below(30));
+        try_refused_text(rt, chance, tally, file, few, Reason::Header.at(0))?;
     }
     Ok(())
 }
 
-// Is it a number that a case in memory can meet?
-fn in_memory(t: Turned) -> bool {
-    if t.number == 4 {
-        return true;
-    }
-    7 <= t.number
+// Can a case in memory meet it?
+fn is_met_in_memory(reason: Reason) -> bool {
+    matches!(
+        reason,
+        Reason::Limit | Reason::Person | Reason::Step | Reason::Before | Reason::Row | Reason::Rule
+    )
 }
 
 // Every call refuses the case, whatever else it is given.
 fn try_refused_case(
     rt: &impl Print,
-    seed: &mut [usize; 1],
-    tally: &mut [usize; TALLY],
-    file: &[u8; ROOM],
-    length: usize,
+    chance: &mut Chance,
+    tally: &mut Tally,
+    file: &File,
     case: Case,
     ours: Answer,
 ) -> io::Result<()> {
-    let t = to_32(below(seed, 40));
-    let limit = to_32(below(seed, 3));
-    let mut question: usize = 0;
-    while question < 5 {
-        compare(
-            rt,
-            tally,
-            file,
-            length,
-            question,
-            ours,
-            ask_verdict(question, case, t, limit),
-        )?;
-        question += 1;
+    let t = chance.below(40);
+    let limit = chance.below(3);
+    for question in Question::ALL {
+        let theirs = ask_question(question, case, t, limit);
+        compare(rt, tally, file, Asked::Question(question), ours, theirs)?;
     }
-    let position = position_of(below(seed, 65536), below(seed, 10));
-    compare(
-        rt,
-        tally,
-        file,
-        length,
-        5,
-        ours,
-        ask_advice(case, position, t, below(seed, 64), limit),
-    )?;
-    compare(
-        rt,
-        tally,
-        file,
-        length,
-        6,
-        ours,
-        ask_away(case, position, t, limit),
-    )
+    let placed = Placed {
+        who: chance.below(65536),
+        length: chance.below(10),
+    };
+    let absent = chance.below(64);
+    let theirs = ask_advice(case, placed, t, absent, limit);
+    compare(rt, tally, file, Asked::Advice, ours, theirs)?;
+    let theirs = ask_away(case, placed, t, limit);
+    compare(rt, tally, file, Asked::Away, ours, theirs)
 }

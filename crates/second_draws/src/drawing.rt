@@ -1,9 +1,6 @@
 // Good files, drawn by chance to given counts.
-use crate::chance::{below, some_of};
-use second_files::{
-    ROOM, minus, people, person_at, plus, put_byte, put_long, put_word, roles, row_at, rule_at,
-    rules, set_of, step_at, steps, tables, times, total, up,
-};
+use crate::chance::Chance;
+use second_files::{File, minus, person_at, plus, set_of, up};
 
 // What a file is drawn to: its counts, and the chances. Each person and each step has each role with a chance of `odds` in 8, and each pair is in a table
 // with a chance of `pairs` in 8. The steps of a rule lie within a stretch of `reach` steps. A mild file has a role for every step, and no rule that asks
@@ -21,131 +18,98 @@ pub struct Shape {
     pub mild: bool,
 }
 
-// A file of this shape: how long it is. No step, no rule.
-pub fn draw(seed: &mut [usize; 1], file: &mut [u8; ROOM], shape: Shape) -> usize {
-    put_word(file, 0, 1);
-    put_word(file, 2, shape.people);
-    put_word(file, 4, shape.steps);
-    put_word(file, 6, shape.roles);
-    put_word(file, 8, shape.tables);
-    if shape.steps == 0 {
-        put_word(file, 10, 0);
+// A file of this shape. No step, no rule.
+pub fn draw(chance: &mut Chance, shape: Shape) -> File {
+    let mut file = File::empty();
+    put_header(&mut file, shape);
+    draw_people(chance, &mut file, shape);
+    draw_steps(chance, &mut file, shape);
+    draw_tables(chance, &mut file, shape);
+    draw_rules(chance, &mut file, shape);
+    file.length = file.total();
+    file
+}
+
+fn put_header(file: &mut File, shape: Shape) {
+    file.put_word(0, 1);
+    file.put_word(2, shape.people);
+    file.put_word(4, shape.steps);
+    file.put_word(6, shape.roles);
+    file.put_word(8, shape.tables);
+    file.put_word(10, if shape.steps == 0 { 0 } else { shape.rules });
+    file.put_word(12, 24);
+    file.put_word(14, file.step_at(0));
+    file.put_word(16, file.row_at(0));
+    file.put_word(18, file.rule_at(0));
+    file.put_word(20, file.total());
+    file.put_word(22, 0);
+}
+
+fn draw_people(chance: &mut Chance, file: &mut File, shape: Shape) {
+    for u in 0..shape.people {
+        file.put_word(person_at(u), chance.some_of(shape.roles, shape.odds));
+    }
+}
+
+fn draw_steps(chance: &mut Chance, file: &mut File, shape: Shape) {
+    for s in 0..shape.steps {
+        let at = file.step_at(s);
+        let roles = chance.some_of(shape.roles, shape.odds);
+        let role = set_of(chance.below(shape.roles));
+        let before = chance.some_of(s, 2);
+        file.put_word(at, if shape.mild { roles | role } else { roles });
+        file.put_byte(plus(at, 2), before);
+        file.put_byte(plus(at, 3), 0);
+    }
+}
+
+fn draw_tables(chance: &mut Chance, file: &mut File, shape: Shape) {
+    for i in 0..file.rows() {
+        file.put_long(file.row_at(i), chance.some_of(shape.people, shape.pairs));
+    }
+}
+
+fn draw_rules(chance: &mut Chance, file: &mut File, shape: Shape) {
+    for r in 0..file.rules() {
+        draw_rule(chance, file, file.rule_at(r), shape);
+    }
+}
+
+fn draw_rule(chance: &mut Chance, file: &mut File, at: usize, shape: Shape) {
+    let form = chance.from_to(1, 3);
+    let from = chance.below(plus(1, minus(shape.steps, shape.reach)));
+    let width = shape.reach.min(minus(shape.steps, from));
+    let step = chance.below(width);
+    let group = draw_group(chance, width, form);
+    let relation = chance.below(plus(2, shape.tables));
+    file.put_byte(at, form);
+    file.put_byte(plus(at, 2), plus(from, step));
+    if shape.mild {
+        file.put_byte(plus(at, 1), relation.max(1));
+        file.put_byte(plus(at, 3), up(others(group, step, width), from));
     } else {
-        put_word(file, 10, shape.rules);
+        file.put_byte(plus(at, 1), relation);
+        file.put_byte(plus(at, 3), up(group, from));
     }
-    put_offsets(file);
-    draw_people(seed, file, shape.odds);
-    draw_steps(seed, file, shape.odds, shape.mild);
-    draw_tables(seed, file, shape.pairs);
-    draw_rules(seed, file, shape.reach, shape.mild);
-    total(file)
-}
-
-fn put_offsets(file: &mut [u8; ROOM]) {
-    let a = step_at(file, 0);
-    let b = row_at(file, 0, 0);
-    let c = rule_at(file, 0);
-    let e = total(file);
-    put_word(file, 12, 24);
-    put_word(file, 14, a);
-    put_word(file, 16, b);
-    put_word(file, 18, c);
-    put_word(file, 20, e);
-    put_word(file, 22, 0);
-}
-
-fn draw_people(seed: &mut [usize; 1], file: &mut [u8; ROOM], odds: usize) {
-    let n = people(file);
-    let mut u: usize = 0;
-    while u < n {
-        let set = some_of(seed, roles(file), odds);
-        put_word(file, person_at(u), set);
-        u += 1;
-    }
-}
-
-fn draw_steps(seed: &mut [usize; 1], file: &mut [u8; ROOM], odds: usize, mild: bool) {
-    let n = steps(file);
-    let mut s: usize = 0;
-    while s < n {
-        let at = step_at(file, s);
-        let set = some_of(seed, roles(file), odds) | one_if(seed, mild, roles(file));
-        let before = some_of(seed, s, 2);
-        put_word(file, at, set);
-        put_byte(file, plus(at, 2), before);
-        put_byte(file, plus(at, 3), 0);
-        s += 1;
-    }
-}
-
-// One of the first n, where it is wanted.
-fn one_if(seed: &mut [usize; 1], wanted: bool, n: usize) -> usize {
-    let one = set_of(below(seed, n));
-    if wanted { one } else { 0 }
-}
-
-fn draw_tables(seed: &mut [usize; 1], file: &mut [u8; ROOM], odds: usize) {
-    let n = times(tables(file), people(file));
-    let mut i: usize = 0;
-    while i < n {
-        let row = some_of(seed, people(file), odds);
-        put_long(file, row_at(file, 0, i), row);
-        i += 1;
-    }
-}
-
-fn draw_rules(seed: &mut [usize; 1], file: &mut [u8; ROOM], reach: usize, mild: bool) {
-    let n = rules(file);
-    let mut r: usize = 0;
-    while r < n {
-        draw_rule(seed, file, rule_at(file, r), reach, mild);
-        r += 1;
-    }
-}
-
-fn draw_rule(seed: &mut [usize; 1], file: &mut [u8; ROOM], at: usize, reach: usize, mild: bool) {
-    let form = plus(1, below(seed, 3));
-    let from = below(seed, plus(1, minus(steps(file), reach)));
-    let width = least(reach, minus(steps(file), from));
-    let step = below(seed, width);
-    let group = draw_group(seed, width, form);
-    let relation = below(seed, plus(2, tables(file)));
-    put_byte(file, at, form);
-    put_byte(file, plus(at, 2), plus(from, step));
-    if mild {
-        put_byte(file, plus(at, 1), or_one(relation));
-        put_byte(file, plus(at, 3), up(others(group, step, width), from));
-    } else {
-        put_byte(file, plus(at, 1), relation);
-        put_byte(file, plus(at, 3), up(group, from));
-    }
-}
-
-fn least(a: usize, b: usize) -> usize {
-    if a < b { a } else { b }
-}
-
-fn or_one(x: usize) -> usize {
-    if x == 0 { 1 } else { x }
 }
 
 // A set of the first n steps: one for form 1, else at least one.
-fn draw_group(seed: &mut [usize; 1], n: usize, form: usize) -> usize {
-    let one = set_of(below(seed, n));
+fn draw_group(chance: &mut Chance, n: usize, form: usize) -> usize {
+    let one = set_of(chance.below(n));
     if form == 1 {
-        return one;
+        one
+    } else {
+        chance.some_of(n, 2) | one
     }
-    some_of(seed, n, 2) | one
 }
 
 // The set without a step; where nothing is left, a step beside it.
 fn others(group: usize, step: usize, n: usize) -> usize {
     let left = minus(group, group & set_of(step));
     if left != 0 {
-        return left;
-    }
-    if step == 0 {
-        set_of(least(1, minus(n, 1)))
+        left
+    } else if step == 0 {
+        set_of(minus(n, 1).min(1))
     } else {
         set_of(minus(step, 1))
     }

@@ -4,4 +4,4 @@
 mod calls;
 mod trying;
 
-pub use trying::{try_exported, try_refused_exported};
+pub use trying::{draw_verdict, try_exported, try_refused_exported};

@@ -1,124 +1,90 @@
-// Faults put into a file, one for each of 1 to 11. Where the file has no entry for a fault, or the fault makes no difference, it may stay good. Nothing is
-// promised here but safety.
+// Faults put into a file, one for each reason to turn a file away. Where the file has no entry for a fault, or the fault makes no difference, it may stay
+// good. Nothing is promised here but safety.
 #![tactic(auto)]
 
-use second_draws::below;
-use second_files::{
-    ROOM, byte, long, minus, people, person_at, plus, put_byte, put_long, put_word, roles, row_at,
-    rule_at, rules, set_of, step_at, steps, tables, times, word,
-};
+use second_draws::Chance;
+use second_files::{File, Reason, minus, person_at, plus, set_of, times};
 
-// The fault of a number: how long the file is then.
-pub fn damage(seed: &mut [usize; 1], file: &mut [u8; ROOM], length: usize, number: usize) -> usize {
-    match number {
-        1 => below(seed, 24),
-        6 => change_length(seed, length),
-        _ => {
-            let at = place_for(seed, file, number);
-            if at != 0 {
-                change_entry(seed, file, at, number);
-            }
-            length
+// The reasons for which a file is turned away.
+pub const FAULTS: [Reason; 11] = [
+    Reason::Header,
+    Reason::Edition,
+    Reason::Spare,
+    Reason::Limit,
+    Reason::Offset,
+    Reason::Length,
+    Reason::Person,
+    Reason::Step,
+    Reason::Before,
+    Reason::Row,
+    Reason::Rule,
+];
+
+// Puts the fault in.
+pub fn damage(chance: &mut Chance, file: &mut File, fault: Reason) {
+    match fault {
+        Reason::Header => file.length = chance.below(24),
+        Reason::Edition => file.put_word(0, chance.below(4)),
+        Reason::Spare => file.put_word(22, chance.from_to(1, 65535)),
+        Reason::Limit => change_count(chance, file),
+        Reason::Offset => {
+            let at = plus(12, times(2, chance.below(5)));
+            file.put_word(at, near(chance, file.word(at)));
         }
+        Reason::Length => file.length = near(chance, file.length),
+        Reason::Person => {
+            if let Some(u) = chance.one_of(file.people()) {
+                add_role(chance, file, person_at(u));
+            }
+        }
+        Reason::Step => {
+            if let Some(s) = chance.one_of(file.steps()) {
+                add_role(chance, file, file.step_at(s));
+            }
+        }
+        Reason::Before => {
+            if let Some(s) = chance.one_of(file.steps()) {
+                change_step(chance, file, file.step_at(s));
+            }
+        }
+        Reason::Row => {
+            if let Some(i) = chance.one_of(file.rows()) {
+                let at = file.row_at(i);
+                let person = past(chance, file.people(), 32);
+                file.put_long(at, file.long(at) | set_of(person));
+            }
+        }
+        Reason::Rule => {
+            if let Some(r) = chance.one_of(file.rules()) {
+                change_rule(chance, file, file.rule_at(r));
+            }
+        }
+        // No file is turned away for these.
+        Reason::Absentees | Reason::Position | Reason::Absence | Reason::Room => {}
     }
 }
 
-// Some bytes more or less.
-fn change_length(seed: &mut [usize; 1], length: usize) -> usize {
-    let by = plus(1, below(seed, 4));
-    if below(seed, 2) == 0 {
-        plus(length, by)
-    } else {
-        minus(length, by)
-    }
-}
-
-// Where a number's fault goes: a header number, or an entry, or 0 where there is none.
-fn place_for(seed: &mut [usize; 1], file: &[u8; ROOM], number: usize) -> usize {
-    match number {
-        2 => 1,
-        3 => 22,
-        4 => plus(2, times(2, below(seed, 5))),
-        5 => plus(12, times(2, below(seed, 5))),
-        7 => {
-            if people(file) == 0 {
-                return 0;
-            }
-            person_at(below(seed, people(file)))
-        }
-        8 | 9 => {
-            if steps(file) == 0 {
-                return 0;
-            }
-            step_at(file, below(seed, steps(file)))
-        }
-        10 => {
-            let n = times(tables(file), people(file));
-            if n == 0 {
-                return 0;
-            }
-            row_at(file, 0, below(seed, n))
-        }
-        _ => {
-            if rules(file) == 0 {
-                return 0;
-            }
-            rule_at(file, below(seed, rules(file)))
-        }
-    }
-}
-
-fn change_entry(seed: &mut [usize; 1], file: &mut [u8; ROOM], at: usize, number: usize) {
-    match number {
-        2 => {
-            let edition = below(seed, 4);
-            put_word(file, 0, edition);
-        }
-        3 => {
-            let last = plus(1, below(seed, 65535));
-            put_word(file, 22, last);
-        }
-        4 => {
-            let count = over_limit(seed, at);
-            put_word(file, at, count);
-        }
-        5 => {
-            let offset = other(seed, word(file, at));
-            put_word(file, at, offset);
-        }
-        7 | 8 => {
-            let role = past(seed, roles(file), 16);
-            let set = word(file, at) | set_of(role);
-            put_word(file, at, set);
-        }
-        9 => change_step(seed, file, at),
-        10 => {
-            let person = past(seed, people(file), 32);
-            let row = long(file, at) | set_of(person);
-            put_long(file, at, row);
-        }
-        _ => change_rule(seed, file, at),
-    }
-}
-
-// A count above the limit of the count at a place, most often by one.
-fn over_limit(seed: &mut [usize; 1], at: usize) -> usize {
-    let most = match at {
-        4 => 8,
-        6 => 16,
-        8 => 6,
-        _ => 32,
+// A count above its limit, most often by one.
+fn change_count(chance: &mut Chance, file: &mut File) {
+    let (at, most) = match chance.below(5) {
+        0 => (2, 32),
+        1 => (4, 8),
+        2 => (6, 16),
+        3 => (8, 6),
+        _ => (10, 32),
     };
-    if below(seed, 3) == 0 {
-        return plus(plus(most, 1), below(seed, 65000));
-    }
-    plus(most, 1)
+    let above = if chance.below(3) == 0 {
+        chance.below(65000)
+    } else {
+        0
+    };
+    file.put_word(at, plus(most + 1, above));
 }
 
 // Another number nearby.
-fn other(seed: &mut [usize; 1], x: usize) -> usize {
-    let by = plus(1, below(seed, 4));
-    if below(seed, 2) == 0 {
+fn near(chance: &mut Chance, x: usize) -> usize {
+    let by = chance.from_to(1, 4);
+    if chance.below(2) == 0 {
         plus(x, by)
     } else {
         minus(x, by)
@@ -126,40 +92,39 @@ fn other(seed: &mut [usize; 1], x: usize) -> usize {
 }
 
 // A number from n up to, not including, the width; the width itself where there is none, which the entry has no room for.
-fn past(seed: &mut [usize; 1], n: usize, width: usize) -> usize {
-    plus(n, below(seed, minus(width, n)))
+fn past(chance: &mut Chance, n: usize, width: usize) -> usize {
+    plus(n, chance.below(minus(width, n)))
 }
 
-fn change_step(seed: &mut [usize; 1], file: &mut [u8; ROOM], at: usize) {
-    if below(seed, 2) == 0 {
-        let spare = plus(1, below(seed, 255));
-        put_byte(file, plus(at, 3), spare);
+// A role that there is not.
+fn add_role(chance: &mut Chance, file: &mut File, at: usize) {
+    let role = past(chance, file.roles(), 16);
+    file.put_word(at, file.word(at) | set_of(role));
+}
+
+fn change_step(chance: &mut Chance, file: &mut File, at: usize) {
+    if chance.below(2) == 0 {
+        file.put_byte(plus(at, 3), chance.from_to(1, 255));
     } else {
-        let before = byte(file, plus(at, 2)) | set_of(below(seed, 8));
-        put_byte(file, plus(at, 2), before);
+        let before = file.byte(plus(at, 2)) | set_of(chance.below(8));
+        file.put_byte(plus(at, 2), before);
     }
 }
 
 // The form, the relation, the step or the set X.
-fn change_rule(seed: &mut [usize; 1], file: &mut [u8; ROOM], at: usize) {
-    match below(seed, 6) {
-        0 => put_byte(file, at, 0),
-        1 => {
-            let form = plus(4, below(seed, 252));
-            put_byte(file, at, form);
-        }
+fn change_rule(chance: &mut Chance, file: &mut File, at: usize) {
+    match chance.below(6) {
+        0 => file.put_byte(at, 0),
+        1 => file.put_byte(at, chance.from_to(4, 255)),
         2 => {
-            let relation = plus(plus(2, tables(file)), below(seed, 3));
-            put_byte(file, plus(at, 1), relation);
+            let relation = plus(plus(2, file.tables()), chance.below(3));
+            file.put_byte(plus(at, 1), relation);
         }
         3 => {
-            let step = plus(steps(file), below(seed, 3));
-            put_byte(file, plus(at, 2), step);
+            let step = plus(file.steps(), chance.below(3));
+            file.put_byte(plus(at, 2), step);
         }
-        4 => {
-            let group = below(seed, 256);
-            put_byte(file, plus(at, 3), group);
-        }
-        _ => put_byte(file, plus(at, 3), 0),
+        4 => file.put_byte(plus(at, 3), chance.below(256)),
+        _ => file.put_byte(plus(at, 3), 0),
     }
 }

@@ -4,13 +4,11 @@
 // Nothing is promised here but safety. A file is the first `length` bytes of an array; what stands past them is never asked for.
 #![tactic(auto)]
 
-mod bytes;
+mod file;
+mod judging;
 mod numbers;
-mod turned;
+mod reason;
 
-pub use bytes::{
-    ROOM, byte, first, long, people, person_at, put_byte, put_long, put_word, roles, row_at,
-    rule_at, rules, step_at, steps, tables, to_8, total, wide, word,
-};
-pub use numbers::{down, has, minus, plus, set_of, size, times, up};
-pub use turned::{Turned, judged, turned_by};
+pub use file::{File, ROOM, first, person_at, rest};
+pub use numbers::{down, has, minus, plus, set_of, size, times, to_8, up};
+pub use reason::{NoReason, Reason, Turned};

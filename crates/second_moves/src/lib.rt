@@ -2,150 +2,116 @@
 #![tactic(auto)]
 
 use second::{Answer, MOST_TRIALS, advice};
-use second_draws::{below, some_of};
-use second_files::{ROOM, has, minus, people, plus, set_of};
-use second_positions::{SLATE, all_people, all_steps, kid, placed};
+use second_draws::Chance;
+use second_files::{File, has, minus, plus, set_of};
+use second_positions::{Listed, Placed, Slate};
 
-// A position: its node, its persons and its length.
+// Where a game stands: at a valid position, and its node.
 #[derive(Clone, Copy)]
 pub struct At {
     pub node: usize,
-    pub who: usize,
-    pub length: usize,
+    pub placed: Placed,
 }
 
-pub fn start() -> At {
-    At {
+impl At {
+    pub const START: At = At {
         node: 0,
-        who: 0,
-        length: 0,
+        placed: Placed::START,
+    };
+
+    // The position with v in the next step, if it is valid.
+    pub fn moved(self, listed: &Listed, v: usize) -> Option<At> {
+        let node = listed.kid(self.node, v)?;
+        Some(At {
+            node: node,
+            placed: self.placed.with(v),
+        })
     }
 }
 
-// The position with v in the next step.
-pub fn moved(slate: &[usize; SLATE], at: At, v: usize) -> At {
-    At {
-        node: kid(slate, at.node, v),
-        who: placed(at.who, at.length, v),
-        length: plus(at.length, 1),
-    }
-}
-
-// Nobody's number.
-pub const NOBODY: usize = 99;
-
-// Somebody present who can be placed at a node, or nobody: the first from a start by chance on, going round.
-pub fn somebody(
-    seed: &mut [usize; 1],
-    slate: &[usize; SLATE],
-    node: usize,
-    absent: usize,
-) -> usize {
-    let n = all_people(slate);
-    let from = below(seed, n);
-    let mut i: usize = 0;
-    while i < n {
+// Somebody present who can be placed at a node: the first from a start by chance on, going round.
+pub fn somebody(chance: &mut Chance, listed: &Listed, node: usize, absent: usize) -> Option<usize> {
+    let n = listed.people;
+    let from = chance.below(n);
+    for i in 0..n {
         let v = plus(from, i) % n;
-        if can_do(slate, node, absent, v) {
-            return v;
+        if !has(absent, v) && listed.kid(node, v).is_some() {
+            return Some(v);
         }
-        i += 1;
     }
-    NOBODY
-}
-
-// Is v present, and is the position valid with v in the next step?
-fn can_do(slate: &[usize; SLATE], node: usize, absent: usize, v: usize) -> bool {
-    if has(absent, v) {
-        return false;
-    }
-    kid(slate, node, v) != 0
+    None
 }
 
 // A valid position, as long as it can get by moves by chance, and no longer than drawn.
-fn wander(seed: &mut [usize; 1], slate: &[usize; SLATE]) -> At {
-    let most = below(seed, plus(1, all_steps(slate)));
-    let mut at = start();
-    let mut i: usize = 0;
-    while i < most {
-        let v = somebody(seed, slate, at.node, 0);
-        if v == NOBODY {
+fn wander(chance: &mut Chance, listed: &Listed) -> At {
+    let most = chance.from_to(0, listed.steps);
+    let mut at = At::START;
+    for _ in 0..most {
+        let Some(v) = somebody(chance, listed, at.node, 0) else {
             return at;
-        }
-        at = moved(slate, at, v);
-        i += 1;
+        };
+        at = at.moved(listed, v).unwrap_or(at);
     }
     at
 }
 
-// A position to ask about; the node says nothing. Most often a valid one, else one with a person by chance, or persons by chance.
-pub fn draw_position(seed: &mut [usize; 1], slate: &[usize; SLATE], file: &[u8; ROOM]) -> At {
-    let at = wander(seed, slate);
-    match below(seed, 8) {
-        0 => At {
-            node: 0,
-            who: placed(at.who, at.length, below(seed, plus(people(file), 1))),
-            length: plus(at.length, 1),
+// A position to ask about. Most often a valid one, else one with a person by chance, or persons by chance.
+pub fn draw_position(chance: &mut Chance, listed: &Listed, file: &File) -> Placed {
+    let placed = wander(chance, listed).placed;
+    match chance.below(8) {
+        0 => placed.with(chance.from_to(0, file.people())),
+        1 => Placed {
+            who: chance.below(4294967296) & 117901063,
+            length: chance.below(10),
         },
-        1 => At {
-            node: 0,
-            who: below(seed, 4294967296) & 117901063,
-            length: below(seed, 10),
+        2 => Placed {
+            who: placed.who | chance.below(1024),
+            length: placed.length,
         },
-        2 => At {
-            node: 0,
-            who: at.who | below(seed, 1024),
-            length: at.length,
-        },
-        _ => at,
+        _ => placed,
     }
 }
 
 // A set of people: with at most t of them, or any, or with somebody unknown.
-pub fn draw_absent(seed: &mut [usize; 1], n: usize, t: usize) -> usize {
-    match below(seed, 8) {
-        0 => some_of(seed, n, 4),
-        1 => some_of(seed, plus(n, 1) % 33, 3),
-        _ => few_of(seed, n, t),
+pub fn draw_absent(chance: &mut Chance, n: usize, t: usize) -> usize {
+    match chance.below(8) {
+        0 => chance.some_of(n, 4),
+        1 => chance.some_of(plus(n, 1) % 33, 3),
+        _ => few_of(chance, n, t),
     }
 }
 
 // A set of at most t people.
-pub fn few_of(seed: &mut [usize; 1], n: usize, t: usize) -> usize {
+pub fn few_of(chance: &mut Chance, n: usize, t: usize) -> usize {
     let mut set = 0;
-    let mut i: usize = 0;
-    while i < t {
-        set = set | set_of(below(seed, n));
-        i += 1;
+    for _ in 0..t {
+        set |= set_of(chance.below(n));
     }
     if n == 0 { 0 } else { set }
 }
 
 // The t people whom the desk would name first.
-pub fn lowest_good(slate: &[usize; SLATE], node: usize, t: usize) -> usize {
+pub fn lowest_good(slate: &Slate, node: usize, t: usize) -> usize {
     let mut set = 0;
-    let mut i: usize = 0;
-    while i < t {
-        let a = advice(slate, node, set);
-        if a.says == 1 {
-            set = set | set_of(a.shown);
+    for _ in 0..t {
+        if let Answer::Yes { shown, .. } = advice(slate, node, set) {
+            set |= set_of(shown);
         }
-        i += 1;
     }
     set
 }
 
 // A limit for an answer: the largest, the exact count, or one below; and never a long walk.
-pub fn limit_for(seed: &mut [usize; 1], ours: Answer) -> usize {
-    if ours.says == 3 {
-        return below(seed, 3);
+pub fn limit_for(chance: &mut Chance, ours: Answer) -> usize {
+    if let Answer::Refused(_) = ours {
+        return chance.below(3);
     }
-    if MOST_TRIALS < ours.trials {
+    if ours.is_long() {
         return MOST_TRIALS;
     }
-    match below(seed, 4) {
-        0 => minus(ours.trials, 1),
-        1 => ours.trials,
+    match chance.below(4) {
+        0 => minus(ours.trials(), 1),
+        1 => ours.trials(),
         _ => 4294967295,
     }
 }

@@ -1,118 +1,97 @@
 // Whole games, played by what the planner says.
-use cases::Case;
-use second::{advice, away};
-use second_calls::{ask_advice, ask_away};
-use second_draws::below;
-use second_files::{ROOM, has, people, size};
-use second_memory::{position_of, to_32};
-use second_moves::{At, NOBODY, few_of, lowest_good, moved, somebody, start};
-use second_positions::{SLATE, all_steps, is_full};
-use second_tally::{AWAY_GAMES, DESK_GAMES, TALLY, compare, count, expect};
+use crate::Held;
+use second::{Answer, advice, away};
+use second_calls::{UNLIMITED, ask_advice, ask_away};
+use second_draws::Chance;
+use second_files::{has, size};
+use second_moves::{At, few_of, lowest_good, somebody};
+use second_positions::Slate;
+use second_tally::{Asked, Tally, compare, expect};
 use std::io;
 
-// A game that the desk wins, played by advice: it ends in a plan.
+// A game that the desk wins, played by advice: every move is to a valid position, and the last one is full.
 pub fn play_desk(
     rt: &impl Print,
-    seed: &mut [usize; 1],
-    slate: &[usize; SLATE],
-    tally: &mut [usize; TALLY],
-    file: &[u8; ROOM],
-    length: usize,
-    case: Case,
-    t: usize,
+    chance: &mut Chance,
+    slate: &Slate,
+    tally: &mut Tally,
+    held: Held,
 ) -> io::Result<()> {
-    count(tally, DESK_GAMES);
-    let n = all_steps(slate);
-    let mut at = start();
-    let mut round: usize = 0;
-    while round < n {
-        at = desk_round(rt, seed, slate, tally, file, length, case, t, at)?;
-        round += 1;
+    tally.desk_games.more();
+    let mut at = At::START;
+    for _ in 0..slate.listed.steps {
+        let v = named_by_advice(rt, chance, slate, tally, held, at)?;
+        let Some(next) = at.moved(&slate.listed, v) else {
+            return expect(rt, tally, held.file, Asked::Advice, false);
+        };
+        at = next;
     }
-    expect(rt, tally, file, length, 5, is_plan(slate, at))
+    let full = slate.listed.is_full(at.node);
+    expect(rt, tally, held.file, Asked::Advice, full)
 }
 
-// Was every move to a valid position, and is it full?
-fn is_plan(slate: &[usize; SLATE], at: At) -> bool {
-    if at.length != all_steps(slate) {
-        return false;
-    }
-    is_full(slate, at.node)
-}
-
-// One round: people by chance are absent, or those whom advice would name first.
-fn desk_round(
+// Whom the planner names, who is present. People by chance are absent, or those whom advice would name first.
+fn named_by_advice(
     rt: &impl Print,
-    seed: &mut [usize; 1],
-    slate: &[usize; SLATE],
-    tally: &mut [usize; TALLY],
-    file: &[u8; ROOM],
-    length: usize,
-    case: Case,
-    t: usize,
+    chance: &mut Chance,
+    slate: &Slate,
+    tally: &mut Tally,
+    held: Held,
     at: At,
-) -> io::Result<At> {
-    let absent = if below(seed, 2) == 0 {
-        few_of(seed, people(file), t)
+) -> io::Result<usize> {
+    let absent = if chance.below(2) == 0 {
+        few_of(chance, held.file.people(), held.t)
     } else {
-        lowest_good(slate, at.node, t)
+        lowest_good(slate, at.node, held.t)
     };
-    let position = position_of(at.who, at.length);
-    let theirs = ask_advice(case, position, to_32(t), absent, 4294967295);
-    compare(
-        rt,
-        tally,
-        file,
-        length,
-        5,
-        advice(slate, at.node, absent),
-        theirs,
-    )?;
-    expect(rt, tally, file, length, 5, !has(absent, theirs.shown))?;
-    Ok(moved(slate, at, theirs.shown))
+    let ours = advice(slate, at.node, absent);
+    let theirs = ask_advice(held.case, at.placed, held.t, absent, UNLIMITED);
+    compare(rt, tally, held.file, Asked::Advice, ours, theirs)?;
+    let named = shown(theirs);
+    expect(rt, tally, held.file, Asked::Advice, !has(absent, named))?;
+    Ok(named)
 }
 
 // A game that the away side wins, played by away against persons by chance: it ends where nobody present can be placed.
 pub fn play_away(
     rt: &impl Print,
-    seed: &mut [usize; 1],
-    slate: &[usize; SLATE],
-    tally: &mut [usize; TALLY],
-    file: &[u8; ROOM],
-    length: usize,
-    case: Case,
-    t: usize,
+    chance: &mut Chance,
+    slate: &Slate,
+    tally: &mut Tally,
+    held: Held,
 ) -> io::Result<()> {
-    count(tally, AWAY_GAMES);
-    let n = all_steps(slate);
-    let mut at = start();
-    let mut round: usize = 0;
-    while round < n {
-        let absent = named_away(rt, slate, tally, file, length, case, t, at)?;
-        let v = somebody(seed, slate, at.node, absent);
-        if v == NOBODY {
+    tally.away_games.more();
+    let mut at = At::START;
+    for _ in 0..slate.listed.steps {
+        let absent = named_away(rt, slate, tally, held, at)?;
+        let Some(v) = somebody(chance, &slate.listed, at.node, absent) else {
             return Ok(());
-        }
-        at = moved(slate, at, v);
-        round += 1;
+        };
+        at = at.moved(&slate.listed, v).unwrap_or(at);
     }
-    expect(rt, tally, file, length, 6, false)
+    expect(rt, tally, held.file, Asked::Away, false)
 }
 
 // Whom the planner keeps away, at most t people.
 fn named_away(
     rt: &impl Print,
-    slate: &[usize; SLATE],
-    tally: &mut [usize; TALLY],
-    file: &[u8; ROOM],
-    length: usize,
-    case: Case,
-    t: usize,
+    slate: &Slate,
+    tally: &mut Tally,
+    held: Held,
     at: At,
 ) -> io::Result<usize> {
-    let position = position_of(at.who, at.length);
-    let theirs = ask_away(case, position, to_32(t), 4294967295);
-    compare(rt, tally, file, length, 6, away(slate, at.node, t), theirs)?;
-    expect(rt, tally, file, length, 6, size(theirs.shown) <= t)?;
-    Ok(theirs.shown)
+    let ours = away(slate, at.node, held.t);
+    let theirs = ask_away(held.case, at.placed, held.t, UNLIMITED);
+    compare(rt, tally, held.file, Asked::Away, ours, theirs)?;
+    let named = shown(theirs);
+    expect(rt, tally, held.file, Asked::Away, size(named) <= held.t)?;
+    Ok(named)
+}
+
+// The person or the people that an answer shows.
+fn shown(answer: Answer) -> usize {
+    match answer {
+        Answer::Yes { shown, .. } => shown,
+        _ => 0,
+    }
 }

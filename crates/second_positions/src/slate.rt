@@ -1,10 +1,7 @@
-// The slate: one lent array of numbers, and what each stretch of it holds.
-//
-// A node stands for all valid positions of one length that no rule still ahead can tell apart: it has the persons of the first of them that was met.
-// Nodes are numbered breadth first, so that a node's kids, its positions longer by one, come after it.
-use second_files::{minus, plus, times};
-
-pub const SLATE: usize = 300000;
+// The slate: what is listed of a case, and the cells in which its questions are worked out.
+use crate::placed::Placed;
+use second_files::first;
+use std::alloc::{AllocError, Global};
 
 // How many nodes, how many sets, and how many cells for a node with a set are made.
 pub const MOST_NODES: usize = 2000;
@@ -13,153 +10,9 @@ pub const MOST_SETS: usize = 1000;
 
 pub const MOST_CELLS: usize = 200000;
 
-// Where the stretches start: the people who may do each step, what is asked later of each length, the sets of absentees, each node's persons, what is
-// asked later of them, length and kids, and the cells.
-const MAY_AT: usize = 16;
-
-const LATER_AT: usize = 32;
-
-const SETS_AT: usize = 64;
-
-const WHO_AT: usize = 2048;
-
-const ASKED_AT: usize = 4096;
-
-const DEPTH_AT: usize = 6144;
-
-const KIDS_AT: usize = 12288;
-
-pub const PLAN: usize = 8192;
-
-pub const DYNAMIC: usize = 10240;
-
-pub const DESK: usize = 77824;
-
-pub const AWAY: usize = 79872;
-
-pub const STRUCK: usize = 280576;
-
-pub const ONE_SHOT: usize = 282624;
-
-pub fn get(slate: &[usize; SLATE], i: usize) -> usize {
-    if i < 300000 { slate[i] } else { 0 }
-}
-
-pub fn put(slate: &mut [usize; SLATE], i: usize, x: usize) {
-    if i < 300000 {
-        slate[i] = x;
-    }
-}
-
-pub fn nodes(slate: &[usize; SLATE]) -> usize {
-    get(slate, 0)
-}
-
-pub fn put_nodes(slate: &mut [usize; SLATE], n: usize) {
-    put(slate, 0, n);
-}
-
-// How many sets of at most t people there are.
-pub fn sets(slate: &[usize; SLATE]) -> usize {
-    get(slate, 1)
-}
-
-pub fn put_sets(slate: &mut [usize; SLATE], n: usize) {
-    put(slate, 1, n);
-}
-
-pub fn all_people(slate: &[usize; SLATE]) -> usize {
-    get(slate, 2)
-}
-
-pub fn all_steps(slate: &[usize; SLATE]) -> usize {
-    get(slate, 3)
-}
-
-pub fn put_counts(slate: &mut [usize; SLATE], people: usize, steps: usize) {
-    put(slate, 2, people);
-    put(slate, 3, steps);
-}
-
-// The set of the people who may do a step.
-pub fn may_do(slate: &[usize; SLATE], step: usize) -> usize {
-    get(slate, plus(MAY_AT, step))
-}
-
-pub fn put_may_do(slate: &mut [usize; SLATE], step: usize, set: usize) {
-    put(slate, plus(MAY_AT, step), set);
-}
-
-// The steps of a position of this length that a rule still ahead asks about.
-pub fn later(slate: &[usize; SLATE], length: usize) -> usize {
-    get(slate, plus(LATER_AT, length))
-}
-
-pub fn put_later(slate: &mut [usize; SLATE], length: usize, steps: usize) {
-    put(slate, plus(LATER_AT, length), steps);
-}
-
-// Set a, of the sets of at most t people in ascending number.
-pub fn set(slate: &[usize; SLATE], a: usize) -> usize {
-    get(slate, plus(SETS_AT, a))
-}
-
-// One set more. Where there is no room for it, the count alone says so.
-pub fn add_set(slate: &mut [usize; SLATE], people: usize) {
-    let n = sets(slate);
-    if n <= MOST_SETS {
-        put(slate, plus(SETS_AT, n), people);
-        put_sets(slate, plus(n, 1));
-    }
-}
-
-// A node's persons.
-pub fn who(slate: &[usize; SLATE], node: usize) -> usize {
-    get(slate, plus(WHO_AT, node))
-}
-
-// Those of them whom a rule still ahead asks about.
-pub fn asked(slate: &[usize; SLATE], node: usize) -> usize {
-    get(slate, plus(ASKED_AT, node))
-}
-
-// How many steps a node has filled.
-pub fn depth(slate: &[usize; SLATE], node: usize) -> usize {
-    get(slate, plus(DEPTH_AT, node))
-}
-
-pub fn is_full(slate: &[usize; SLATE], node: usize) -> bool {
-    depth(slate, node) == all_steps(slate)
-}
-
-// One node more. Where there is no room for it, the count alone says so.
-pub fn add_node(slate: &mut [usize; SLATE], persons: usize, kept: usize, length: usize) {
-    let n = nodes(slate);
-    if n <= MOST_NODES {
-        put(slate, plus(WHO_AT, n), persons);
-        put(slate, plus(ASKED_AT, n), kept);
-        put(slate, plus(DEPTH_AT, n), length);
-        put_nodes(slate, plus(n, 1));
-    }
-}
-
-// The kid with v in the next step, or 0: the start is nobody's kid.
-pub fn kid(slate: &[usize; SLATE], node: usize, v: usize) -> usize {
-    get(slate, kid_at(node, v))
-}
-
-pub fn put_kid(slate: &mut [usize; SLATE], node: usize, v: usize, kid: usize) {
-    put(slate, kid_at(node, v), kid);
-}
-
-fn kid_at(node: usize, v: usize) -> usize {
-    plus(KIDS_AT, plus(times(32, node), v))
-}
-
-// The cell of a node with a set, in a stretch that has `wide` cells for each node.
-pub fn cell_at(stretch: usize, node: usize, wide: usize, a: usize) -> usize {
-    plus(stretch, plus(times(node, wide), a))
-}
+// There is no room for one more.
+#[derive(Clone, Copy, PartialEq, Eq)]
+pub struct NoRoom;
 
 // What a cell holds: whether the desk wins, and the trials of the walk from there.
 #[derive(Clone, Copy)]
@@ -168,29 +21,209 @@ pub struct Cell {
     pub trials: usize,
 }
 
-pub fn cell_in(slate: &[usize; SLATE], at: usize) -> Cell {
-    let x = get(slate, at);
-    Cell {
-        won: x % 2 == 1,
-        trials: x / 2,
-    }
-}
-
-// Trials past any limit that is asked are one number.
-pub fn put_cell(slate: &mut [usize; SLATE], at: usize, won: bool, trials: usize) {
-    let twice = if trials < 2147483648 {
-        times(2, trials)
-    } else {
-        4294967296
+impl Cell {
+    pub const LOST: Cell = Cell {
+        won: false,
+        trials: 0,
     };
-    if won {
-        put(slate, at, plus(twice, 1));
-    } else {
-        put(slate, at, twice);
+
+    pub const WON: Cell = Cell {
+        won: true,
+        trials: 0,
+    };
+}
+
+// A node stands for all valid positions of one length that no rule still ahead can tell apart: it has the persons of the first of them that was met,
+// and those whom a rule still ahead asks about.
+#[derive(Clone, Copy)]
+pub struct Node {
+    pub placed: Placed,
+    pub asked: usize,
+}
+
+impl Node {
+    pub const START: Node = Node {
+        placed: Placed::START,
+        asked: 0,
+    };
+}
+
+// A node's kids, its positions longer by one, by the person in the next step.
+type Kids = [Option<usize>; 32];
+
+// What is listed of a case: its nodes, breadth first, so that a node's kids come after it, and the sets of at most t people in ascending number. Kids
+// stand apart from their nodes, which are looked through again and again, so that these lie close together; and they are too many for the stack. Counts
+// stand beside nodes and sets, since to list one more cannot run out of memory, as a push can.
+#[derive(Drop)]
+pub struct Listed {
+    pub people: usize,
+    pub steps: usize,
+    may: [usize; 8],
+    later: [usize; 9],
+    nodes: [Node; MOST_NODES],
+    kids: Vec<Kids>,
+    count: usize,
+    sets: [usize; MOST_SETS],
+    set_count: usize,
+}
+
+impl Listed {
+    pub fn new(alloc: Global) -> Result<Listed, AllocError> {
+        Ok(Listed {
+            people: 0,
+            steps: 0,
+            may: [0; 8],
+            later: [0; 9],
+            nodes: [Node::START; MOST_NODES],
+            kids: vec![in alloc; [None; 32]; MOST_NODES]?,
+            count: 0,
+            sets: [0; MOST_SETS],
+            set_count: 0,
+        })
+    }
+
+    // The start of a case: no node and no set is listed. The people who may do each step, and for each length the steps asked about later.
+    pub fn begin(&mut self, people: usize, steps: usize, may: [usize; 8], later: [usize; 9]) {
+        self.people = people;
+        self.steps = steps;
+        self.may = may;
+        self.later = later;
+        self.count = 0;
+        self.set_count = 0;
+    }
+
+    // The set of the people who may do a step.
+    pub fn may_do(&self, step: usize) -> usize {
+        if step < 8 { self.may[step] } else { 0 }
+    }
+
+    // The steps of a position of this length that a rule still ahead asks about.
+    pub fn later(&self, length: usize) -> usize {
+        if length < 9 { self.later[length] } else { 0 }
+    }
+
+    pub fn nodes(&self) -> &[Node] {
+        first(&self.nodes, self.count)
+    }
+
+    pub fn placed(&self, node: usize) -> Placed {
+        if node < MOST_NODES {
+            self.nodes[node].placed
+        } else {
+            Placed::START
+        }
+    }
+
+    pub fn is_full(&self, node: usize) -> bool {
+        self.placed(node).length == self.steps
+    }
+
+    // One node more, and its number. Sets are added by a function of their own: a generic struct holds no array of a type parameter, and two short functions
+    // are plainer than another way round.
+    pub fn add_node(&mut self, node: Node) -> Result<usize, NoRoom> {
+        if self.count < MOST_NODES {
+            self.nodes[self.count] = node;
+            self.count += 1;
+            Ok(self.count - 1)
+        } else {
+            Err(NoRoom)
+        }
+    }
+
+    // The kid with v in the next step.
+    pub fn kid(&self, node: usize, v: usize) -> Option<usize> {
+        if node < self.kids.len() && v < 32 {
+            self.kids[node][v]
+        } else {
+            None
+        }
+    }
+
+    pub fn put_kid(&mut self, node: usize, v: usize, kid: Option<usize>) {
+        if node < self.kids.len() && v < 32 {
+            self.kids[node][v] = kid;
+        }
+    }
+
+    pub fn sets(&self) -> &[usize] {
+        first(&self.sets, self.set_count)
+    }
+
+    // Set a of them.
+    pub fn set(&self, a: usize) -> usize {
+        if a < MOST_SETS { self.sets[a] } else { 0 }
+    }
+
+    // No set is listed any more.
+    pub fn clear_sets(&mut self) {
+        self.set_count = 0;
+    }
+
+    // One set more.
+    pub fn add_set(&mut self, set: usize) -> Result<(), NoRoom> {
+        if self.set_count < MOST_SETS {
+            self.sets[self.set_count] = set;
+            self.set_count += 1;
+            Ok(())
+        } else {
+            Err(NoRoom)
+        }
     }
 }
 
-// The nodes from the last one back: the one at turn i.
-pub fn from_last(slate: &[usize; SLATE], i: usize) -> usize {
-    minus(minus(nodes(slate), 1), i)
+// A cell for each node.
+pub type ByNode = [Cell; MOST_NODES];
+
+// The cells of the questions: of the plan, dynamic and one-shot questions and of the strikes before it by node; of the decremental question for the
+// desk by set, for one node at a time, and for the away side by node and set. These are too many for the stack.
+#[derive(Drop)]
+pub struct Cells {
+    pub plan: ByNode,
+    pub dynamic: ByNode,
+    pub struck: ByNode,
+    pub one_shot: ByNode,
+    pub desk: [Cell; MOST_SETS],
+    pub away: Vec<Cell>,
+}
+
+impl Cells {
+    pub fn new(alloc: Global) -> Result<Cells, AllocError> {
+        Ok(Cells {
+            plan: [Cell::LOST; MOST_NODES],
+            dynamic: [Cell::LOST; MOST_NODES],
+            struck: [Cell::LOST; MOST_NODES],
+            one_shot: [Cell::LOST; MOST_NODES],
+            desk: [Cell::LOST; MOST_SETS],
+            away: vec![in alloc; Cell::LOST; MOST_CELLS]?,
+        })
+    }
+}
+
+pub fn cell_in(cells: &[Cell], i: usize) -> Cell {
+    if i < cells.len() {
+        cells[i]
+    } else {
+        Cell::LOST
+    }
+}
+
+pub fn put_cell(cells: &mut [Cell], i: usize, cell: Cell) {
+    if i < cells.len() {
+        cells[i] = cell;
+    }
+}
+
+#[derive(Drop)]
+pub struct Slate {
+    pub listed: Listed,
+    pub cells: Cells,
+}
+
+impl Slate {
+    pub fn new(alloc: Global) -> Result<Slate, AllocError> {
+        Ok(Slate {
+            listed: Listed::new(alloc)?,
+            cells: Cells::new(alloc)?,
+        })
+    }
 }

@@ -5,5 +5,5 @@
 mod pairs;
 mod replies;
 
-pub use pairs::{Pairs, draw_pairs, entries, judged_pairs, persons};
+pub use pairs::{Pairs, draw_pairs};
 pub use replies::{REPLY, advice_reply, away_reply, judged_reply, plan_reply, verdict_reply};

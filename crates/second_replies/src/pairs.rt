@@ -1,109 +1,104 @@
 // Positions as the exported functions take them: a pair of bytes for each entry, the step and the person.
-use second_draws::below;
-use second_files::{ROOM, Turned, minus, plus, steps, times, to_8, turned_by, wide};
-use second_moves::At;
-use second_positions::{keeps, may, person_of, placed};
+use second_draws::Chance;
+use second_files::{File, Reason, Turned, first, minus, plus, times, to_8};
+use second_positions::{Placed, keeps, may, with_person};
 
 // Room for more entries than any case has steps.
 const BYTES: usize = 24;
 
-// A position: the first n bytes.
+// A position: the first `length` bytes. An array with its length, and no vector, as for a file.
 #[derive(Clone, Copy)]
 pub struct Pairs {
-    pub bytes: [u8; BYTES],
-    pub n: usize,
+    bytes: [u8; BYTES],
+    length: usize,
 }
 
-// The pairs of a position.
-fn pairs_of(at: At) -> Pairs {
-    let mut bytes = [0u8; BYTES];
-    let mut i: usize = 0;
-    while i < 12 {
-        bytes[2 * i] = to_8(i);
-        bytes[2 * i + 1] = to_8(person_of(at.who, i));
-        i += 1;
+impl Pairs {
+    // The pairs of a position.
+    fn new(placed: Placed) -> Pairs {
+        let mut pairs = Pairs {
+            bytes: [0; BYTES],
+            length: times(2, placed.length),
+        };
+        for i in 0..12 {
+            pairs.put(2 * i, i);
+            pairs.put(2 * i + 1, placed.person(i));
+        }
+        pairs
     }
-    Pairs {
-        bytes: bytes,
-        n: times(2, at.length),
+
+    fn put(&mut self, at: usize, x: usize) {
+        if at < BYTES {
+            self.bytes[at] = to_8(x);
+        }
+    }
+
+    fn byte(&self, at: usize) -> usize {
+        if at < BYTES {
+            usize::from(self.bytes[at])
+        } else {
+            0
+        }
+    }
+
+    // The bytes, as they are lent to an exported function.
+    pub fn lent(&self) -> &[u8] {
+        first(&self.bytes, self.length)
+    }
+
+    // How many entries there are: a byte without its pair is one too.
+    pub fn entries(&self) -> usize {
+        plus(self.length, 1) / 2
+    }
+
+    fn person(&self, entry: usize) -> usize {
+        self.byte(plus(times(2, entry), 1))
+    }
+
+    // The position of the first entries.
+    pub fn placed(&self, entries: usize) -> Placed {
+        let mut who = 0;
+        for i in 0..entries {
+            who = with_person(who, i, self.person(i));
+        }
+        Placed {
+            who: who,
+            length: entries,
+        }
+    }
+
+    // The position judged by 13.
+    pub fn judged(&self, file: &File) -> Result<(), Turned> {
+        if file.steps() <= self.entries() {
+            return Err(Reason::Position.at(file.steps()));
+        }
+        for i in 0..self.entries() {
+            if !self.is_good(file, i) {
+                return Err(Reason::Position.at(i));
+            }
+        }
+        Ok(())
+    }
+
+    // Is an entry a whole pair, for its own step, with a person who keeps the position valid?
+    fn is_good(&self, file: &File, i: usize) -> bool {
+        times(2, plus(i, 1)) <= self.length
+            && self.byte(times(2, i)) == i
+            && may(file, self.person(i), i)
+            && keeps(file, self.placed(plus(i, 1)))
     }
 }
 
 // The pairs of a position; now and then a byte short or a byte over, or with another step, or with a person who is not there.
-pub fn draw_pairs(seed: &mut [usize; 1], at: At) -> Pairs {
-    let p = pairs_of(at);
-    let entry = below(seed, plus(at.length, 1));
-    match below(seed, 10) {
-        0 => cut_to(p, minus(p.n, 1)),
-        1 => cut_to(p, plus(p.n, 1)),
-        2 => changed(p, times(2, entry), below(seed, 9)),
-        3 => changed(p, plus(times(2, entry), 1), below(seed, 256)),
-        _ => p,
+pub fn draw_pairs(chance: &mut Chance, placed: Placed) -> Pairs {
+    let mut pairs = Pairs::new(placed);
+    let entry = chance.from_to(0, placed.length);
+    match chance.below(10) {
+        0 => pairs.length = minus(pairs.length, 1),
+        1 => pairs.length = plus(pairs.length, 1),
+        2 => pairs.put(times(2, entry), chance.below(9)),
+        3 => pairs.put(plus(times(2, entry), 1), chance.below(256)),
+        _ => {}
     }
-}
-
-// With another number of bytes.
-fn cut_to(p: Pairs, n: usize) -> Pairs {
-    let mut q = p;
-    q.n = n;
-    q
-}
-
-// With another byte.
-fn changed(p: Pairs, i: usize, x: usize) -> Pairs {
-    let mut q = p;
-    if i < 24 {
-        q.bytes[i] = to_8(x);
-    }
-    q
-}
-
-fn byte_of(p: Pairs, i: usize) -> usize {
-    if i < 24 { wide(p.bytes[i]) } else { 0 }
-}
-
-// How many entries there are: a byte without its pair is one too.
-pub fn entries(p: Pairs) -> usize {
-    plus(p.n, 1) / 2
-}
-
-// The persons of the first entries.
-pub fn persons(p: Pairs, entries: usize) -> usize {
-    let mut who = 0;
-    let mut i: usize = 0;
-    while i < entries {
-        who = placed(who, i, byte_of(p, plus(times(2, i), 1)));
-        i += 1;
-    }
-    who
-}
-
-// The position judged by 13.
-pub fn judged_pairs(file: &[u8; ROOM], p: Pairs) -> Turned {
-    let n = entries(p);
-    if steps(file) <= n {
-        return turned_by(13, steps(file));
-    }
-    let mut i: usize = 0;
-    while i < n {
-        if !good_entry(file, p, i) {
-            return turned_by(13, i);
-        }
-        i += 1;
-    }
-    turned_by(0, 0)
-}
-
-// Is it a whole pair, for its own step, with a person who keeps the position valid?
-fn good_entry(file: &[u8; ROOM], p: Pairs, i: usize) -> bool {
-    if p.n < times(2, plus(i, 1)) {
-        return false;
-    }
-    if byte_of(p, times(2, i)) != i {
-        return false;
-    }
-    if !may(file, byte_of(p, plus(times(2, i), 1)), i) {
-        return false;
-    }
-    keeps(file, persons(p, plus(i, 1)), plus(i, 1))
+    pairs
 }

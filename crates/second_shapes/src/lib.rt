@@ -1,8 +1,8 @@
 // What is drawn: the shapes of small, middle and large cases, each with a number of absentees. Nothing is promised here but safety.
 #![tactic(auto)]
 
-use second_draws::{Shape, below};
-use second_files::{minus, plus};
+use second_draws::{Chance, Shape};
+use second_files::minus;
 
 // A shape, and t.
 #[derive(Clone, Copy)]
@@ -11,200 +11,242 @@ pub struct Drawn {
     pub t: usize,
 }
 
+// Rules of every kind; nothing else is said yet.
+const PLAIN: Shape = Shape {
+    people: 0,
+    steps: 0,
+    roles: 0,
+    tables: 0,
+    rules: 0,
+    odds: 4,
+    pairs: 5,
+    reach: 8,
+    mild: false,
+};
+
+// A mild one.
+const MILD: Shape = Shape {
+    people: 0,
+    steps: 0,
+    roles: 0,
+    tables: 0,
+    rules: 0,
+    odds: 4,
+    pairs: 4,
+    reach: 4,
+    mild: true,
+};
+
 // Up to 5 people and 4 steps, for files that are damaged.
-pub fn tiny(seed: &mut [usize; 1]) -> Shape {
-    let people = below(seed, 6);
-    let steps = below(seed, 5);
-    let roles = below(seed, 5);
-    let tables = below(seed, 4);
-    let rules = below(seed, 5);
-    let d = plain(people, steps, roles, tables, rules, 4, 0);
-    d.shape
+pub fn tiny(chance: &mut Chance) -> Shape {
+    Shape {
+        people: chance.below(6),
+        steps: chance.below(5),
+        roles: chance.below(5),
+        tables: chance.below(4),
+        rules: chance.below(5),
+        ..PLAIN
+    }
 }
 
 // Up to 5 people and 4 steps, with the counts that are 0 among them, and now and then any t that is not refused.
-pub fn small(seed: &mut [usize; 1]) -> Drawn {
-    let people = mostly(seed, 2, 5);
-    let steps = mostly(seed, 1, 4);
-    let roles = mostly(seed, 1, 4);
-    let tables = below(seed, 3);
-    let rules = below(seed, 4);
-    let odds = plus(4, below(seed, 5));
-    let t = if below(seed, 12) == 0 {
-        below(seed, 33)
-    } else {
-        minus(below(seed, 5), below(seed, 3))
+pub fn small(chance: &mut Chance) -> Drawn {
+    let shape = Shape {
+        people: mostly(chance, 2, 5),
+        steps: mostly(chance, 1, 4),
+        roles: mostly(chance, 1, 4),
+        tables: chance.below(3),
+        rules: chance.below(4),
+        odds: chance.from_to(4, 8),
+        ..PLAIN
     };
-    plain(people, steps, roles, tables, rules, odds, t)
+    let t = if chance.below(12) == 0 {
+        chance.below(33)
+    } else {
+        minus(chance.below(5), chance.below(3))
+    };
+    Drawn { shape: shape, t: t }
 }
 
 // Middle ones, each turn of another kind.
-pub fn middle(seed: &mut [usize; 1], turn: usize) -> Drawn {
+pub fn middle(chance: &mut Chance, turn: usize) -> Drawn {
     if turn % 2 == 0 {
-        some_people(seed)
+        some_people(chance)
     } else {
-        few_pairs(seed)
+        few_pairs(chance)
     }
 }
 
 // Up to 8 people and 5 steps.
-fn some_people(seed: &mut [usize; 1]) -> Drawn {
-    let people = from(seed, 4, 8);
-    let steps = from(seed, 2, 5);
-    let roles = from(seed, 2, 6);
-    let tables = from(seed, 0, 3);
-    let rules = from(seed, 0, 5);
-    let odds = from(seed, 3, 5);
-    let t = from(seed, 0, 3);
-    plain(people, steps, roles, tables, rules, odds, t)
+fn some_people(chance: &mut Chance) -> Drawn {
+    Drawn {
+        shape: Shape {
+            people: chance.from_to(4, 8),
+            steps: chance.from_to(2, 5),
+            roles: chance.from_to(2, 6),
+            tables: chance.from_to(0, 3),
+            rules: chance.from_to(0, 5),
+            odds: chance.from_to(3, 5),
+            ..PLAIN
+        },
+        t: chance.from_to(0, 3),
+    }
 }
 
 // One rule, most often about a table with few pairs, and t of 2: the games come apart often, also those with one strike and with more.
-fn few_pairs(seed: &mut [usize; 1]) -> Drawn {
-    let people = from(seed, 6, 8);
-    let steps = from(seed, 2, 3);
-    let roles = from(seed, 2, 4);
-    let odds = from(seed, 6, 7);
-    mild(plain(people, steps, roles, 6, 1, odds, 2), 8, 2)
+fn few_pairs(chance: &mut Chance) -> Drawn {
+    Drawn {
+        shape: Shape {
+            people: chance.from_to(6, 8),
+            steps: chance.from_to(2, 3),
+            roles: chance.from_to(2, 4),
+            tables: 6,
+            rules: 1,
+            odds: chance.from_to(6, 7),
+            pairs: 2,
+            reach: 8,
+            ..MILD
+        },
+        t: 2,
+    }
 }
 
-// Large ones, each turn of another kind.
-pub fn large(seed: &mut [usize; 1], turn: usize) -> Drawn {
+// Large ones, each turn of another kind. A match and no table of functions: of twelve turns some share a kind, and a match says so in as many lines.
+pub fn large(chance: &mut Chance, turn: usize) -> Drawn {
     match turn % 12 {
-        0 => long_chain(seed),
-        1 | 2 | 3 => tight_chain(seed),
-        4 => two_away_long(seed),
-        5 | 6 => two_away(seed),
-        7 => three_away(seed),
-        8 | 9 => sparse_tables(seed),
-        _ => many_rules(seed),
+        0 => long_chain(chance),
+        1 | 2 | 3 => tight_chain(chance),
+        4 => two_away_long(chance),
+        5 | 6 => two_away(chance),
+        7 => three_away(chance),
+        8 | 9 => sparse_tables(chance),
+        _ => many_rules(chance),
     }
 }
 
 // Up to every step, few rules, and t of at most 1.
-fn long_chain(seed: &mut [usize; 1]) -> Drawn {
-    let people = from(seed, 24, 32);
-    let steps = from(seed, 5, 8);
-    let roles = from(seed, 3, 7);
-    let tables = from(seed, 0, 3);
-    let rules = from(seed, 1, 4);
-    let odds = from(seed, 2, 3);
-    let t = minus(1, below(seed, 4) / 3);
-    mild(plain(people, steps, roles, tables, rules, odds, t), 3, 4)
-}
-
-// The same with few people who may do a step, and t of 1.
-fn tight_chain(seed: &mut [usize; 1]) -> Drawn {
-    let people = from(seed, 24, 32);
-    let steps = from(seed, 4, 8);
-    let roles = from(seed, 6, 12);
-    let tables = from(seed, 0, 6);
-    let rules = from(seed, 2, 6);
-    mild(plain(people, steps, roles, tables, rules, 1, 1), 4, 4)
-}
-
-// Many steps and t of 2: too long for most decremental walks, and not for the others.
-fn two_away_long(seed: &mut [usize; 1]) -> Drawn {
-    let people = from(seed, 24, 32);
-    let steps = from(seed, 5, 8);
-    let roles = from(seed, 3, 6);
-    let tables = from(seed, 0, 3);
-    let rules = from(seed, 0, 2);
-    let odds = from(seed, 2, 4);
-    mild(plain(people, steps, roles, tables, rules, odds, 2), 3, 5)
-}
-
-// Few steps and t of 2.
-fn two_away(seed: &mut [usize; 1]) -> Drawn {
-    let people = from(seed, 18, 32);
-    let steps = from(seed, 2, 4);
-    let roles = from(seed, 6, 10);
-    let tables = from(seed, 0, 3);
-    let rules = from(seed, 1, 3);
-    let odds = from(seed, 1, 2);
-    mild(plain(people, steps, roles, tables, rules, odds, 2), 4, 4)
-}
-
-// Fewer people and t of 3.
-fn three_away(seed: &mut [usize; 1]) -> Drawn {
-    let people = from(seed, 10, 16);
-    let steps = from(seed, 2, 3);
-    let roles = from(seed, 3, 6);
-    let tables = from(seed, 0, 3);
-    let rules = from(seed, 0, 2);
-    let odds = from(seed, 2, 6);
-    mild(plain(people, steps, roles, tables, rules, odds, 3), 4, 5)
-}
-
-// Tables that hold few pairs: a plan is found late.
-fn sparse_tables(seed: &mut [usize; 1]) -> Drawn {
-    let people = from(seed, 24, 32);
-    let steps = from(seed, 4, 5);
-    let roles = from(seed, 3, 5);
-    let tables = from(seed, 3, 6);
-    let rules = from(seed, 4, 7);
-    let t = from(seed, 0, 1);
-    mild(plain(people, steps, roles, tables, rules, 2, t), 8, 2)
-}
-
-// Up to every limit, where few people may do each step.
-fn many_rules(seed: &mut [usize; 1]) -> Drawn {
-    let people = from(seed, 24, 32);
-    let steps = from(seed, 5, 8);
-    let roles = from(seed, 12, 16);
-    let tables = from(seed, 3, 6);
-    let rules = from(seed, 2, 32);
-    let t = from(seed, 0, 2);
-    plain(people, steps, roles, tables, rules, 1, t)
-}
-
-// Rules of every kind.
-fn plain(
-    people: usize,
-    steps: usize,
-    roles: usize,
-    tables: usize,
-    rules: usize,
-    odds: usize,
-    t: usize,
-) -> Drawn {
+fn long_chain(chance: &mut Chance) -> Drawn {
     Drawn {
         shape: Shape {
-            people: people,
-            steps: steps,
-            roles: roles,
-            tables: tables,
-            rules: rules,
-            odds: odds,
-            pairs: 5,
-            reach: 8,
-            mild: false,
+            people: chance.from_to(24, 32),
+            steps: chance.from_to(5, 8),
+            roles: chance.from_to(3, 7),
+            tables: chance.from_to(0, 3),
+            rules: chance.from_to(1, 4),
+            odds: chance.from_to(2, 3),
+            reach: 3,
+            ..MILD
         },
-        t: t,
+        t: minus(1, chance.below(4) / 3),
     }
 }
 
-// A mild one, with rules about steps that lie close together, and with other chances for the pairs of its tables.
-fn mild(d: Drawn, reach: usize, pairs: usize) -> Drawn {
-    let mut shape = d.shape;
-    shape.pairs = pairs;
-    shape.reach = reach;
-    shape.mild = true;
+// The same with few people who may do a step, and t of 1.
+fn tight_chain(chance: &mut Chance) -> Drawn {
     Drawn {
-        shape: shape,
-        t: d.t,
+        shape: Shape {
+            people: chance.from_to(24, 32),
+            steps: chance.from_to(4, 8),
+            roles: chance.from_to(6, 12),
+            tables: chance.from_to(0, 6),
+            rules: chance.from_to(2, 6),
+            odds: 1,
+            ..MILD
+        },
+        t: 1,
+    }
+}
+
+// Many steps and t of 2: too long for most decremental walks, and not for the others.
+fn two_away_long(chance: &mut Chance) -> Drawn {
+    Drawn {
+        shape: Shape {
+            people: chance.from_to(24, 32),
+            steps: chance.from_to(5, 8),
+            roles: chance.from_to(3, 6),
+            tables: chance.from_to(0, 3),
+            rules: chance.from_to(0, 2),
+            odds: chance.from_to(2, 4),
+            pairs: 5,
+            reach: 3,
+            ..MILD
+        },
+        t: 2,
+    }
+}
+
+// Few steps and t of 2.
+fn two_away(chance: &mut Chance) -> Drawn {
+    Drawn {
+        shape: Shape {
+            people: chance.from_to(18, 32),
+            steps: chance.from_to(2, 4),
+            roles: chance.from_to(6, 10),
+            tables: chance.from_to(0, 3),
+            rules: chance.from_to(1, 3),
+            odds: chance.from_to(1, 2),
+            ..MILD
+        },
+        t: 2,
+    }
+}
+
+// Fewer people and t of 3.
+fn three_away(chance: &mut Chance) -> Drawn {
+    Drawn {
+        shape: Shape {
+            people: chance.from_to(10, 16),
+            steps: chance.from_to(2, 3),
+            roles: chance.from_to(3, 6),
+            tables: chance.from_to(0, 3),
+            rules: chance.from_to(0, 2),
+            odds: chance.from_to(2, 6),
+            pairs: 5,
+            ..MILD
+        },
+        t: 3,
+    }
+}
+
+// Tables that hold few pairs: a plan is found late.
+fn sparse_tables(chance: &mut Chance) -> Drawn {
+    Drawn {
+        shape: Shape {
+            people: chance.from_to(24, 32),
+            steps: chance.from_to(4, 5),
+            roles: chance.from_to(3, 5),
+            tables: chance.from_to(3, 6),
+            rules: chance.from_to(4, 7),
+            odds: 2,
+            pairs: 2,
+            reach: 8,
+            ..MILD
+        },
+        t: chance.from_to(0, 1),
+    }
+}
+
+// Up to every limit, where few people may do each step.
+fn many_rules(chance: &mut Chance) -> Drawn {
+    Drawn {
+        shape: Shape {
+            people: chance.from_to(24, 32),
+            steps: chance.from_to(5, 8),
+            roles: chance.from_to(12, 16),
+            tables: chance.from_to(3, 6),
+            rules: chance.from_to(2, 32),
+            odds: 1,
+            ..PLAIN
+        },
+        t: chance.from_to(0, 2),
     }
 }
 
 // A number from `least` to `most`; now and then one below.
-fn mostly(seed: &mut [usize; 1], least: usize, most: usize) -> usize {
-    if below(seed, 10) == 0 {
-        return below(seed, least);
+fn mostly(chance: &mut Chance, least: usize, most: usize) -> usize {
+    if chance.below(10) == 0 {
+        chance.below(least)
+    } else {
+        chance.from_to(least, most)
     }
-    from(seed, least, most)
-}
-
-// A number from `least` to `most`.
-fn from(seed: &mut [usize; 1], least: usize, most: usize) -> usize {
-    plus(least, below(seed, plus(1, minus(most, least))))
 }

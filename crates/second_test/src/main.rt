@@ -4,95 +4,59 @@
 
 use second_cases::try_case;
 use second_damaged::try_damaged;
-use second_draws::draw;
-use second_files::{ROOM, plus};
-use second_positions::SLATE;
+use second_draws::{Chance, draw};
+use second_faults::FAULTS;
+use second_positions::Slate;
 use second_shapes::{Drawn, large, middle, small};
-use second_tally::{TALLY, begin, print_all};
+use second_tally::{Kind, Tally};
 use std::io;
 
 fn main(rt: HostRuntime) -> io::Result<()> {
-    let mut seed = [88172645463325252usize; 1];
-    let mut slate = [0usize; SLATE];
-    let mut tally = [0usize; TALLY];
-    try_damaged_files(&rt, &mut seed, &mut tally)?;
-    begin(&mut tally, 1);
-    try_small_cases(&rt, &mut seed, &mut slate, &mut tally)?;
-    begin(&mut tally, 2);
-    try_middle_cases(&rt, &mut seed, &mut slate, &mut tally)?;
-    begin(&mut tally, 3);
-    try_large_cases(&rt, &mut seed, &mut slate, &mut tally)?;
-    print_all(&rt, &tally)
+    let mut chance = Chance::new(88172645463325252);
+    let mut slate = Slate::new(rt.alloc())?;
+    let mut tally = Tally::new();
+    tally.begin(Kind::Damaged);
+    try_damaged_files(&rt, &mut chance, &mut tally)?;
+    tally.begin(Kind::Small);
+    for _ in 0..3600 {
+        let drawn = small(&mut chance);
+        try_drawn(&rt, &mut chance, &mut slate, &mut tally, drawn)?;
+    }
+    tally.begin(Kind::Middle);
+    for turn in 0..600 {
+        let drawn = middle(&mut chance, turn);
+        try_drawn(&rt, &mut chance, &mut slate, &mut tally, drawn)?;
+    }
+    tally.begin(Kind::Large);
+    for turn in 0..480 {
+        let drawn = large(&mut chance, turn);
+        try_drawn(&rt, &mut chance, &mut slate, &mut tally, drawn)?;
+    }
+    tally.print_all(&rt)
 }
 
 // Every fault alone and every two faults together, many times.
-fn try_damaged_files(
-    rt: &impl Print,
-    seed: &mut [usize; 1],
-    tally: &mut [usize; TALLY],
-) -> io::Result<()> {
-    let mut i: usize = 0;
-    while i < 7260 {
-        try_damaged(rt, seed, tally, plus(1, i % 11), i / 11 % 12)?;
-        i += 1;
-    }
-    Ok(())
-}
-
-fn try_small_cases(
-    rt: &impl Print,
-    seed: &mut [usize; 1],
-    slate: &mut [usize; SLATE],
-    tally: &mut [usize; TALLY],
-) -> io::Result<()> {
-    let mut i: usize = 0;
-    while i < 3600 {
-        let d = small(seed);
-        try_drawn(rt, seed, slate, tally, d)?;
-        i += 1;
-    }
-    Ok(())
-}
-
-fn try_middle_cases(
-    rt: &impl Print,
-    seed: &mut [usize; 1],
-    slate: &mut [usize; SLATE],
-    tally: &mut [usize; TALLY],
-) -> io::Result<()> {
-    let mut i: usize = 0;
-    while i < 600 {
-        let d = middle(seed, i);
-        try_drawn(rt, seed, slate, tally, d)?;
-        i += 1;
-    }
-    Ok(())
-}
-
-fn try_large_cases(
-    rt: &impl Print,
-    seed: &mut [usize; 1],
-    slate: &mut [usize; SLATE],
-    tally: &mut [usize; TALLY],
-) -> io::Result<()> {
-    let mut i: usize = 0;
-    while i < 480 {
-        let d = large(seed, i);
-        try_drawn(rt, seed, slate, tally, d)?;
-        i += 1;
+fn try_damaged_files(rt: &impl Print, chance: &mut Chance, tally: &mut Tally) -> io::Result<()> {
+    for _ in 0..55 {
+        for fault in FAULTS {
+            try_damaged(rt, chance, tally, fault, None)?;
+        }
+        for other in FAULTS {
+            for fault in FAULTS {
+                try_damaged(rt, chance, tally, fault, Some(other))?;
+            }
+        }
     }
     Ok(())
 }
 
 fn try_drawn(
     rt: &impl Print,
-    seed: &mut [usize; 1],
-    slate: &mut [usize; SLATE],
-    tally: &mut [usize; TALLY],
-    d: Drawn,
+    chance: &mut Chance,
+    slate: &mut Slate,
+    tally: &mut Tally,
+    drawn: Drawn,
 ) -> io::Result<()> {
-    let mut file = [0u8; ROOM];
-    let shape = d.shape;
-    let length = draw(seed, &mut file, shape);
-    try_case(rt, seed, slate, tally, &file, length, d.t)
+    let file = draw(chance, drawn.shape);
+    try_case(rt, chance, slate, tally, &file, drawn.t)
 }

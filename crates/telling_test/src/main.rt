@@ -7,6 +7,12 @@ use std::io;
 use telling::tell;
 use words::{put_long, put_word};
 
+// Before the file stand t and the limit.
+const HEAD: usize = 6;
+
+// An input with the longest file that is made.
+type Input = [u8; 1106];
+
 fn main(rt: HostRuntime) -> io::Result<()> {
     finished(&rt)?;
     stopped(&rt)?;
@@ -17,68 +23,72 @@ fn main(rt: HostRuntime) -> io::Result<()> {
 
 fn finished(rt: &impl Print) -> io::Result<()> {
     let fire = campfire();
-    show(rt, b"t 0", fire, 0, 1000)?;
-    show(rt, b"t 1", fire, 1, 1000)?;
-    show(rt, b"t 2", fire, 2, 1000)?;
-    show(rt, b"t 32, the highest limit", fire, 32, 4294967295)?;
-    show(rt, b"a table", related(), 1, 1000)
+    show(rt, "t 0", fire, 0, 1000)?;
+    show(rt, "t 1", fire, 1, 1000)?;
+    show(rt, "t 2", fire, 2, 1000)?;
+    show(rt, "t 32, the highest limit", fire, 32, u32::MAX)?;
+    show(rt, "a table", related(), 1, 1000)
 }
 
 // Each question under its own trials, and under one less.
 fn stopped(rt: &impl Print) -> io::Result<()> {
     let fire = campfire();
-    show(rt, b"limit 0", fire, 1, 0)?;
-    show(rt, b"limit 1", fire, 1, 1)?;
-    show(rt, b"limit 2", fire, 1, 2)?;
-    show(rt, b"limit 5", fire, 1, 5)?;
-    show(rt, b"limit 6", fire, 1, 6)?;
-    show(rt, b"limit 8", fire, 1, 8)?;
-    show(rt, b"limit 9", fire, 1, 9)?;
-    show(rt, b"limit 11", fire, 1, 11)?;
-    show(rt, b"limit 12", fire, 1, 12)?;
-    show(rt, b"limit 14", fire, 1, 14)?;
-    show(rt, b"limit 15", fire, 1, 15)?;
-    show(rt, b"t 2, limit 7", fire, 2, 7)?;
-    show(rt, b"t 2, limit 15", fire, 2, 15)?;
-    show(rt, b"t 2, limit 17", fire, 2, 17)?;
-    show(rt, b"t 2, limit 18", fire, 2, 18)
+    for (name, t, limit) in [
+        ("limit 0", 1, 0),
+        ("limit 1", 1, 1),
+        ("limit 2", 1, 2),
+        ("limit 5", 1, 5),
+        ("limit 6", 1, 6),
+        ("limit 8", 1, 8),
+        ("limit 9", 1, 9),
+        ("limit 11", 1, 11),
+        ("limit 12", 1, 12),
+        ("limit 14", 1, 14),
+        ("limit 15", 1, 15),
+        ("t 2, limit 7", 2, 7),
+        ("t 2, limit 15", 2, 15),
+        ("t 2, limit 17", 2, 17),
+        ("t 2, limit 18", 2, 18),
+    ] {
+        show(rt, name, fire, t, limit)?;
+    }
+    Ok(())
 }
 
 fn refused(rt: &impl Print) -> io::Result<()> {
     let fire = campfire();
-    show(rt, b"1", fire.long(23), 1, 1000)?;
-    show(rt, b"2", fire.word(0, 2), 1, 1000)?;
-    show(rt, b"3", fire.word(22, 1), 1, 1000)?;
-    show(rt, b"4", fire.word(2, 33), 1, 1000)?;
-    show(rt, b"5", fire.word(14, 31), 1, 1000)?;
-    show(rt, b"6", fire.long(43), 1, 1000)?;
-    show(rt, b"7", fire.byte(26, 7), 1, 1000)?;
-    show(rt, b"8", fire.byte(34, 4), 1, 1000)?;
-    show(rt, b"9", fire.byte(36, 2), 1, 1000)?;
-    show(rt, b"10", related().byte(42, 8), 1, 1000)?;
-    show(rt, b"11", fire.byte(38, 4), 1, 1000)?;
-    show(rt, b"12", fire, 33, 1000)?;
-    show(rt, b"11 before 12", fire.byte(38, 4), 33, 1000)?;
-    show(rt, b"12 at limit 0", fire, 65535, 0)
+    for (name, file) in [
+        ("1", fire.long(23)),
+        ("2", fire.word(0, 2)),
+        ("3", fire.word(22, 1)),
+        ("4", fire.word(2, 33)),
+        ("5", fire.word(14, 31)),
+        ("6", fire.long(43)),
+        ("7", fire.byte(26, 7)),
+        ("8", fire.byte(34, 4)),
+        ("9", fire.byte(36, 2)),
+        ("10", related().byte(42, 8)),
+        ("11", fire.byte(38, 4)),
+    ] {
+        show(rt, name, file, 1, 1000)?;
+    }
+    show(rt, "12", fire, 33, 1000)?;
+    show(rt, "11 before 12", fire.byte(38, 4), 33, 1000)?;
+    show(rt, "12 at limit 0", fire, 65535, 0)
 }
 
 fn edges(rt: &impl Print) -> io::Result<()> {
     let none = nobody();
-    show(rt, b"no steps", none, 0, 0)?;
-    show(rt, b"no steps, t 32", none, 32, 1000)?;
-    show(rt, b"no people, one step", alone(), 0, 1000)?;
-    show(rt, b"no people, one step, limit 0", alone(), 3, 0)?;
-    show(rt, b"32 people", largest(), 0, 1000)?;
-    show(
-        rt,
-        b"eight steps",
-        largest().each(24, 16, 1).each(88, 8, 1),
-        0,
-        1000,
-    )?;
-    show(rt, b"a crowd, t 31", crowd(), 31, 1000)?;
-    show(rt, b"a crowd, t 32", crowd(), 32, 1000)?;
-    show(rt, b"33 people", largest().word(2, 33), 0, 1000)
+    show(rt, "no steps", none, 0, 0)?;
+    show(rt, "no steps, t 32", none, 32, 1000)?;
+    show(rt, "no people, one step", alone(), 0, 1000)?;
+    show(rt, "no people, one step, limit 0", alone(), 3, 0)?;
+    show(rt, "32 people", largest(), 0, 1000)?;
+    let eight = largest().each(24, 16, 1).each(88, 8, 1);
+    show(rt, "eight steps", eight, 0, 1000)?;
+    show(rt, "a crowd, t 31", crowd(), 31, 1000)?;
+    show(rt, "a crowd, t 32", crowd(), 32, 1000)?;
+    show(rt, "33 people", largest().word(2, 33), 0, 1000)
 }
 
 // One step and nobody to do it.
@@ -105,87 +115,41 @@ fn crowd() -> Made {
 
 fn lengths(rt: &impl Print) -> io::Result<()> {
     let fire = campfire();
-    show_first(rt, b"no bytes", fire, 0)?;
-    show_first(rt, b"1 byte", fire, 1)?;
-    show_first(rt, b"5 bytes", fire, 5)?;
-    show_first(rt, b"6 bytes", fire, 6)?;
-    show_first(rt, b"29 bytes", fire, 29)?;
-    show_first(rt, b"30 bytes", fire, 30)?;
-    show_first(rt, b"47 bytes", fire, 47)?;
-    show_first(rt, b"49 bytes", fire, 49)?;
-    show_first(rt, b"longer than any case", fire, 1100)?;
-    show_first(
-        rt,
-        b"longer than any case, edition 2",
-        fire.word(0, 2),
-        1100,
-    )?;
-    show(
-        rt,
-        b"a byte after the longest case",
-        largest().long(1017),
-        0,
-        1000,
-    )
+    for (name, file, len) in [
+        ("no bytes", fire, 0),
+        ("1 byte", fire, 1),
+        ("5 bytes", fire, 5),
+        ("6 bytes", fire, 6),
+        ("29 bytes", fire, 29),
+        ("30 bytes", fire, 30),
+        ("47 bytes", fire, 47),
+        ("49 bytes", fire, 49),
+        ("longer than any case", fire, 1100),
+        ("longer than any case, edition 2", fire.word(0, 2), 1100),
+    ] {
+        show_text(rt, name, first(&input_of(file, 1, 1000), len))?;
+    }
+    let longer = largest().long(1017);
+    show(rt, "a byte after the longest case", longer, 0, 1000)
 }
 
 // A try: its name, and the text for this file under t and limit.
-fn show(rt: &impl Print, name: &[u8], file: Made, t: u16, limit: u32) -> io::Result<()> {
-    let len = file.len();
-    if len <= 1100 {
-        show_input(rt, name, file, t, limit, 6 + len)?;
-    }
-    Ok(())
+fn show(rt: &impl Print, name: &str, file: Made, t: u16, limit: u32) -> io::Result<()> {
+    let input = input_of(file, t, limit);
+    show_text(rt, name, first(&input, HEAD.saturating_add(file.len())))
 }
 
-// The same with t 1 and limit 1000, of which only the first `len` bytes are given.
-fn show_first(rt: &impl Print, name: &[u8], file: Made, len: usize) -> io::Result<()> {
-    show_input(rt, name, file, 1, 1000, len)
+// t, limit and the file, with all the bytes that it has room for.
+fn input_of(file: Made, t: u16, limit: u32) -> Input {
+    let mut input: Input = [0; 1106];
+    put_word(&mut input, 0, t);
+    put_long(&mut input, 2, limit);
+    input[HEAD..].copy_from_slice(&file.data());
+    input
 }
 
-fn show_input(
-    rt: &impl Print,
-    name: &[u8],
-    file: Made,
-    t: u16,
-    limit: u32,
-    len: usize,
-) -> io::Result<()> {
-    let data = file.data();
-    let mut input = [0u8; 1106];
-    fill(&mut input, &data, t, limit);
-    say(rt, name)?;
-    say(rt, b":\n")?;
-    show_text(rt, first(&input, len))
-}
-
-fn show_text(rt: &impl Print, input: &[u8]) -> io::Result<()> {
+fn show_text(rt: &impl Print, name: &str, input: &[u8]) -> io::Result<()> {
+    println!(rt; "{name}:")?;
     let text = tell(input);
-    let bytes = text.bytes;
-    say(rt, first(&bytes, text.len))
-}
-
-// t, limit and the file, as far as there is room.
-fn fill(input: &mut [u8], data: &[u8], t: u16, limit: u32) {
-    if input.len() < 6 {
-        return;
-    }
-    put_word(input, 0, t);
-    put_long(input, 2, limit);
-    copy(&mut input[6..], data);
-}
-
-fn copy(to: &mut [u8], from: &[u8]) {
-    let mut i = 0;
-    while i < from.len() {
-        if to.len() <= i {
-            return;
-        }
-        to[i] = from[i];
-        i += 1;
-    }
-}
-
-fn say(rt: &impl Print, text: &[u8]) -> io::Result<()> {
-    rt.write_all(text)
+    rt.write_all(first(&text.bytes, text.len))
 }

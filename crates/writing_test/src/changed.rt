@@ -1,23 +1,20 @@
 // Cases in memory with an entry changed.
-use cases::{Case, Rule, Step, StepEntry};
+use cases::{Case, Counts, Rule, Step, StepEntry};
 use sets::People;
 
 // Another count of people.
 pub fn with_people(case: Case, people: u16) -> Case {
-    let mut counts = case.counts;
-    counts.people = people;
-    let mut next = case;
-    next.counts = counts;
-    next
+    let counts = Counts {
+        people,
+        ..case.counts
+    };
+    Case { counts, ..case }
 }
 
 // Person u holds these roles.
 pub fn with_person(case: Case, u: usize, roles: u16) -> Case {
-    if Case::PEOPLE <= u {
-        return case;
-    }
     let mut next = case;
-    next.people[u] = roles;
+    put(&mut next.people, u, roles);
     next
 }
 
@@ -32,27 +29,20 @@ pub fn with_spare(case: Case, s: usize) -> Case {
 }
 
 fn changed_step(case: Case, s: usize, roles: u16, spare: u8) -> Case {
-    if Case::STEPS <= s {
-        return case;
-    }
     let step = StepEntry {
-        roles: roles,
+        roles,
         before: 0,
-        spare: spare,
+        spare,
     };
     let mut next = case;
-    next.steps[s] = step;
+    put(&mut next.steps, s, step);
     next
 }
 
 // Row i names person 31.
 pub fn with_row(case: Case, i: usize) -> Case {
-    if Case::ROWS <= i {
-        return case;
-    }
-    let row = People::none().with(31);
     let mut next = case;
-    next.rows[i] = row;
+    put(&mut next.rows, i, People::none().with(31));
     next
 }
 
@@ -67,17 +57,21 @@ pub fn with_rule(case: Case, relation: u8) -> Case {
 }
 
 fn changed_rule(case: Case, i: usize, form: u8, relation: u8) -> Case {
-    if Case::RULES <= i {
-        return case;
-    }
     let step = Step(1);
     let rule = Rule {
-        form: form,
-        relation: relation,
-        step: step,
+        form,
+        relation,
+        step,
         group: 1,
     };
     let mut next = case;
-    next.rules[i] = rule;
+    put(&mut next.rules, i, rule);
     next
+}
+
+// Entry i, where there is one, becomes this one.
+fn put<T: Copy>(entries: &mut [T], i: usize, entry: T) {
+    if let Some(old) = entries.get_mut(i) {
+        *old = entry;
+    }
 }

@@ -20,129 +20,112 @@ fn main(rt: HostRuntime) -> io::Result<()> {
 
 // The campfire into buffers of several lengths.
 fn rooms(rt: &impl Print) -> io::Result<()> {
-    again(rt, b"campfire into 42 bytes", campfire(), 42)?;
-    again(rt, b"campfire into 43 bytes", campfire(), 43)?;
-    again(rt, b"campfire into 1100 bytes", campfire(), 1100)?;
-    again(rt, b"campfire into 41 bytes", campfire(), 41)?;
-    again(rt, b"campfire into no bytes", campfire(), 0)
+    let tries = [
+        ("campfire into 42 bytes", 42),
+        ("campfire into 43 bytes", 43),
+        ("campfire into 1100 bytes", 1100),
+        ("campfire into 41 bytes", 41),
+        ("campfire into no bytes", 0),
+    ];
+    for (name, room) in tries {
+        again(rt, name, campfire(), room)?;
+    }
+    Ok(())
 }
 
 // Other files.
 fn others(rt: &impl Print) -> io::Result<()> {
-    again(rt, b"with a table into 54 bytes", related(), 54)?;
-    again(rt, b"with a table into 53 bytes", related(), 53)?;
-    again(
-        rt,
-        b"all counts at their limits into 1016 bytes",
-        largest(),
-        1016,
-    )?;
-    again(
-        rt,
-        b"all counts at their limits into 1015 bytes",
-        largest(),
-        1015,
-    )?;
-    again(
-        rt,
-        b"a refused file, and so the empty case, into 24 bytes",
-        campfire().byte(0, 2),
-        24,
-    )?;
-    again(
-        rt,
-        b"the empty case into 23 bytes",
-        campfire().byte(0, 2),
-        23,
-    )
+    let bad = campfire().byte(0, 2);
+    let tries = [
+        ("with a table into 54 bytes", related(), 54),
+        ("with a table into 53 bytes", related(), 53),
+        (
+            "all counts at their limits into 1016 bytes",
+            largest(),
+            1016,
+        ),
+        (
+            "all counts at their limits into 1015 bytes",
+            largest(),
+            1015,
+        ),
+        (
+            "a refused file, and so the empty case, into 24 bytes",
+            bad,
+            24,
+        ),
+        ("the empty case into 23 bytes", bad, 23),
+    ];
+    for (name, file, room) in tries {
+        again(rt, name, file, room)?;
+    }
+    Ok(())
 }
 
 // What stands above a count is not written, and no case is bad for it.
 fn rubbish(rt: &impl Print) -> io::Result<()> {
     let case = held(campfire());
-    show(
-        rt,
-        b"a fourth person with all roles",
-        with_person(case, 3, 65535),
-        campfire(),
-        50,
-    )?;
-    show(
-        rt,
-        b"a third step with a spare byte",
-        with_spare(case, 2),
-        campfire(),
-        50,
-    )?;
-    show(
-        rt,
-        b"a row without a table",
-        with_row(case, 0),
-        campfire(),
-        50,
-    )?;
-    show(
-        rt,
-        b"a second rule of form 9",
-        with_form(case, 1, 9),
-        campfire(),
-        50,
-    )
+    let tries = [
+        (
+            "a fourth person with all roles",
+            with_person(case, 3, 65535),
+        ),
+        ("a third step with a spare byte", with_spare(case, 2)),
+        ("a row without a table", with_row(case, 0)),
+        ("a second rule of form 9", with_form(case, 1, 9)),
+    ];
+    for (name, case) in tries {
+        show(rt, name, case, campfire(), 50)?;
+    }
+    Ok(())
 }
 
 // Bad cases in memory: 4 and 7 to 11, at the places that the file would have had. The buffer stays as it was.
 fn refused(rt: &impl Print) -> io::Result<()> {
     let case = held(campfire());
-    show(rt, b"33 people", with_people(case, 33), campfire(), 50)?;
-    show(
-        rt,
-        b"person 2 holds role 2",
-        with_person(case, 2, 4),
-        campfire(),
-        50,
-    )?;
-    show(
-        rt,
-        b"step 1 names role 2",
-        with_step(case, 1, 4),
-        campfire(),
-        50,
-    )?;
-    show(
-        rt,
-        b"step 1 has a spare byte",
-        with_spare(case, 1),
-        campfire(),
-        50,
-    )?;
-    show(
-        rt,
-        b"a row names person 31",
-        with_row(held(related()), 1),
-        related(),
-        60,
-    )?;
-    show(rt, b"form 4", with_form(case, 0, 4), campfire(), 50)?;
-    show(
-        rt,
-        b"relation 2 without a table",
-        with_rule(case, 2),
-        campfire(),
-        50,
-    )
+    let row = with_row(held(related()), 1);
+    let tries = [
+        ("33 people", with_people(case, 33), campfire(), 50),
+        (
+            "person 2 holds role 2",
+            with_person(case, 2, 4),
+            campfire(),
+            50,
+        ),
+        ("step 1 names role 2", with_step(case, 1, 4), campfire(), 50),
+        (
+            "step 1 has a spare byte",
+            with_spare(case, 1),
+            campfire(),
+            50,
+        ),
+        ("a row names person 31", row, related(), 60),
+        ("form 4", with_form(case, 0, 4), campfire(), 50),
+        (
+            "relation 2 without a table",
+            with_rule(case, 2),
+            campfire(),
+            50,
+        ),
+    ];
+    for (name, case, file, room) in tries {
+        show(rt, name, case, file, room)?;
+    }
+    Ok(())
 }
 
 // The lower number is given, and 15 last.
 fn two_at_once(rt: &impl Print) -> io::Result<()> {
     let case = held(campfire());
-    show(rt, b"4 and 15", with_people(case, 33), campfire(), 0)?;
-    show(rt, b"7 and 15", with_person(case, 0, 4), campfire(), 41)?;
-    show(rt, b"11 and 15", with_form(case, 0, 0), campfire(), 41)?;
-    show(
-        rt,
-        b"7 and 11",
-        with_form(with_person(case, 1, 4), 0, 0),
-        campfire(),
-        50,
-    )
+    let two = with_form(with_person(case, 1, 4), 0, 0);
+    let tries = [
+        ("4 and 15", with_people(case, 33), 0),
+        ("7 and 15", with_person(case, 0, 4), 41),
+        ("11 and 15", with_form(case, 0, 0), 41),
+        ("7 and 11", two, 50),
+    ];
+    for (name, case, room) in tries {
+        show(rt, name, case, campfire(), room)?;
+    }
+    Ok(())
 }

@@ -1,6 +1,0 @@
--- `second::absences::list_sets` is safe and ends: what is left of the loop falls.
-use Prim.Native.Nat.{◌-◌}
-use Rattle.second.proofs.absences.list_sets.Given as goal
-
-abbrev pub decreases-loop-v : goal.decreases-loop-v
-decreases-loop-v l = l.n - l.v

@@ -1,6 +1,0 @@
--- `second_cases::play_desk_often` is safe and ends: what is left of the loop falls.
-use Prim.Native.Nat.{◌-◌}
-use Rattle.second_cases.proofs.play_desk_often.Given as goal
-
-abbrev pub decreases-loop-i : goal.decreases-loop-i
-decreases-loop-i g l = 3 - l.i

@@ -1,6 +1,0 @@
--- `second_draws::drawing::draw_tables` is safe and ends: what is left of the loop falls.
-use Prim.Native.Nat.{◌-◌}
-use Rattle.second_draws.proofs.drawing.draw_tables.Given as goal
-
-abbrev pub decreases-loop-i : goal.decreases-loop-i
-decreases-loop-i l = l.n - l.i

@@ -1,6 +1,0 @@
--- `second_memory::same_people` is safe and ends: what is left of the loop falls.
-use Prim.Native.Nat.{◌-◌}
-use Rattle.second_memory.proofs.same_people.Given as goal
-
-abbrev pub decreases-loop-u : goal.decreases-loop-u
-decreases-loop-u l = 32 - l.u

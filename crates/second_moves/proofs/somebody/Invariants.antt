@@ -1,6 +1,0 @@
--- `second_moves::somebody` is safe and ends: what is left of the loop falls.
-use Prim.Native.Nat.{◌-◌}
-use Rattle.second_moves.proofs.somebody.Given as goal
-
-abbrev pub decreases-loop-i : goal.decreases-loop-i
-decreases-loop-i l = l.n - l.i

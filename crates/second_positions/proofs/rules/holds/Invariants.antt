@@ -1,6 +1,0 @@
--- `second_positions::rules::holds` is safe and ends: what is left of the loop falls.
-use Prim.Native.Nat.{◌-◌}
-use Rattle.second_positions.proofs.rules.holds.Given as goal
-
-abbrev pub decreases-loop-x : goal.decreases-loop-x
-decreases-loop-x l = 8 - l.x

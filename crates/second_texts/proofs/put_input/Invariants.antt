@@ -1,6 +1,0 @@
--- `second_texts::put_input` is safe and ends: what is left of the loop falls.
-use Prim.Native.Nat.{◌-◌}
-use Rattle.second_texts.proofs.put_input.Given as goal
-
-abbrev pub decreases-loop-i : goal.decreases-loop-i
-decreases-loop-i l = 1040 - l.i
