@@ -1,4 +1,5 @@
--- The laws of entries: how many bytes each has.
+-- The laws of entries, as theorems: how many bytes each has. They stand here because a trait can cite no proofs of its own crate; there is nothing in them
+-- that a reader has to believe.
 use Rattle.std.specs.Prelude.{◌≡◌, ℕ, length, refl}
 use Rattle.sets.specs.declared.People.{People}
 use Rattle.cases.specs.declared.StepEntry.{StepEntry}
