@@ -7,7 +7,7 @@ ghost use Rattle.cases.specs.Case.{most_people, most_tables, zero_step, zero_rul
 ghost use Rattle.refusals.specs.Offsets.{person_bytes, step_bytes, row_bytes, rule_bytes, total_of};
 ghost use Rattle.words.specs.Part.{table};
 ghost use Rattle.layout.specs.Layout.{person_in, step_in, row_in, rule_in, case_at};
-ghost use Rattle.entries.specs.Past.{person_past, step_past, row_past, rule_past, two_few, four_few};
+ghost use Rattle.layout.proofs.Past.{person_past, step_past, row_past, rule_past, two_few, four_few};
 
 use cases::{Case, Counts, Rule, Step, StepEntry};
 use layout::{rules_at, steps_at, tables_at, total};

@@ -52,6 +52,9 @@ free-nobody n s l e = record { within = le_refl n; nobody = λ h u k. at u (dec_
     at u (yes k) = lowest-nobody width s e u k
     at u (no k) = has-beyond width s u l (omega arith)
 
+pub free-low : (n s : ℕ) → Free n s 0
+free-low n s = record { within = omega arith; nobody = λ h u k. absurd (omega arith) }
+
 pub free-at : (n s v h : ℕ) → s < 2 ^ n → lowest width s ≡ some v → h ≡ v - 1 → Free n s h
 free-at n s v h l e q =
     record {

@@ -50,14 +50,15 @@ module _ {b : List ℕ} {n A k l : ℕ} {p : Filled} {r : Planned} (told : PlanT
       ap₂ (λ (o : Option Filled) (m : ℕ). record { got = lacking S o; trials = m }) d.got d.trials
 
   module _ (few : n ≤ width) (fits : A < 2 ^ n) where
-    within : c ≤ l
-    within = (finished l (plan (board_arena b n) A k p) (some r.plan) c (sym (ap (plan_ended l r.plan) found) ∙ told.own A (same_self (number r.met) A (lt_of_lt_of_le fits (pow_mono few))))).within
+    -- its trials are within its limit
+    pub planned-within : c ≤ l
+    planned-within = (finished l (plan (board_arena b n) A k p) (some r.plan) c (sym (ap (plan_ended l r.plan) found) ∙ told.own A (same_self (number r.met) A (lt_of_lt_of_le fits (pow_mono few))))).within
 
     here : planless b n k p A ≡ record { got = none; trials = c }
     here = planned A (same_self (number r.met) A (lt_of_lt_of_le fits (pow_mono few)))
 
     -- where nobody may join there is one set
-    pub planned-alone : (w : ℕ → ℕ) (m : ℕ) → l < 2 ^ 32 → m ≡ 0 → Summed (planless b n k p) n w m A c
+    pub planned-alone : (w : ℕ → ℕ) (m : ℕ) → c < 2 ^ 32 → m ≡ 0 → Summed (planless b n k p) n w m A c
     planned-alone w m small z =
         subst (λ (i : ℕ). Summed (planless b n k p) n w i A c) (sym z)
         (record {
@@ -73,7 +74,7 @@ module _ {b : List ℕ} {n A k l : ℕ} {p : Filled} {r : Planned} (told : PlanT
             at u q false e = reached-full n w u A q fits e i ∙ sym e
 
         all : c ≡ capped (planless b n k p A).trials
-        all = omega (arith, small, within, ap (λ (o : Search ℕ). o.trials) here)
+        all = omega (arith, small, ap (λ (o : Search ℕ). o.trials) here)
 
     -- where nobody who was met may join, all sets are alike
     pub planned-all : (w : ℕ → ℕ) (m i x : ℕ) → ((u : ℕ) → u < n → has (number r.met) u ≡ true → has A u ≡ false → w u ≡ 0)

@@ -8,6 +8,7 @@ use Rattle.games.specs.Limit.{Ended, limit, ended, Answer}
 use Rattle.cases.specs.Case.{most_steps}
 use Rattle.cases.specs.declared.Person.{Person}
 use Rattle.cases.specs.declared.Position.{Position}
+use Rattle.cases.specs.Positions.{start_position}
 use Rattle.refusals.specs.declared.Refusal.{Refusal}
 use Rattle.refusals.specs.Refusals.{Judged}
 use Rattle.planner.specs.declared.PlanAnswer.{PlanAnswer}
@@ -66,3 +67,11 @@ away_answer a = away_ended a.out a.count
 abbrev pub given : {A : Type 0} → Judged → A → Result A Refusal
 given (Ok nothing) a = Ok a
 given (Err r) a = Err r
+
+-- ---- What an answer to plan shows: the plan with a yes, else the position at the start
+
+abbrev pub shown_plan : Result PlanAnswer Refusal → Position
+shown_plan (Ok (plan.Yes p n)) = p
+shown_plan (Ok (plan.No n)) = start_position
+shown_plan (Ok (plan.Limit n)) = start_position
+shown_plan (Err r) = start_position

@@ -17,7 +17,7 @@ ghost use Rattle.laying.specs.Ready.{Ready};
 ghost use Rattle.planner.specs.OnBoard.{plan_on, walk_on, plan_answer_on, person_told, advice_ready, away_ready};
 ghost use Rattle.tries.specs.Outcomes.{plan_outcome, verdict_outcome, advised_outcome};
 ghost use Rattle.cases.specs.Positions.{persons};
-ghost use Rattle.planner.specs.Answers.{plan_answer, verdict_answer, advice_answer, away_answer};
+ghost use Rattle.planner.specs.Answers.{plan_answer, shown_plan, verdict_answer, advice_answer, away_answer};
 
 use advising::advice_walk;
 use asking::{filled, judge_absent, judge_number, judge_position};
@@ -28,7 +28,7 @@ use laying::lay_onto;
 use losses::away_turn;
 use pieces::Order;
 use plans::plan_walk;
-use refusals::Refusal;
+use refusals::{Refusal, or_else};
 use rounds::dynamic_walk;
 use sets::People;
 use statics::static_walk;
@@ -89,8 +89,20 @@ pub struct ReadyCase {
 pub fn plan(case: Case, limit: u32) -> Result<PlanAnswer, Refusal>
     ensures { result ≡ plan_call case limit }
 {
-    judge_case(case)?;
-    plan_good(GoodCase { case }, limit)
+    match judge_case(case) {
+        Err(refusal) => Err(refusal),
+        Ok(()) => plan_good(GoodCase { case }, limit),
+    }
+}
+
+// The position that an answer to plan shows: the first plan with a yes, else the position at the start.
+pub fn plan_shown(answer: Result<PlanAnswer, Refusal>) -> Position
+    ensures { result ≡ shown_plan answer }
+{
+    match answer {
+        Ok(PlanAnswer::Yes(plan, _)) => plan,
+        _ => Position::start(),
+    }
 }
 
 // Is there, for every set of at most t people, a plan using none of them? A no shows the first set without a plan. Refused by 4, 7 to 11 and 12.
@@ -246,8 +258,10 @@ pub fn advise_ready(
     let board = laid(ready);
     let people = ready.case.counts.people;
     let steps = ready.case.counts.steps;
-    judge_position(&board.words, people, steps, position)?;
-    judge_absent(people, t, absent)?;
+    or_else(
+        judge_position(&board.words, people, steps, position),
+        judge_absent(people, t, absent),
+    )?;
     let left = (steps as u8) - position.len;
     let walked = advice_walk(&board, t, absent, filled(position), left, limit);
     Ok(advice_said(walked, limit))

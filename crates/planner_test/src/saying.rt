@@ -1,6 +1,6 @@
 // Answers, whole, as the end of a line.
 use cases::{Person, Position};
-use planner::{AdviceAnswer, AwayAnswer, PlanAnswer, VerdictAnswer};
+use planner::{AdviceAnswer, AwayAnswer, PlanAnswer, VerdictAnswer, plan_shown};
 use refusals::Refusal;
 use sets::People;
 use std::fmt;
@@ -18,7 +18,7 @@ pub enum Answer {
 #[derive(Clone, Copy)]
 struct Refused(Refusal);
 
-// A plan: its length, and all its entries. Where there is none, the position at the start stands for it.
+// The position that is shown for a plan: its length, and all its entries.
 #[derive(Clone, Copy)]
 struct Plan(Position);
 
@@ -29,11 +29,13 @@ struct Members(People);
 impl fmt::Display for Answer {
     fn fmt<W: fmt::Write>(&self, f: &mut fmt::Formatter<W>) -> fmt::Result {
         match *self {
-            Answer::Plan(Ok(answer)) => write_plan(f, answer),
+            Answer::Plan(answer) => {
+                write_plan(f, answer)?;
+                write!(f, "{}", Plan(plan_shown(answer)))
+            }
             Answer::Verdict(Ok(answer)) => write_verdict(f, answer),
             Answer::Advice(Ok(answer)) => write_advice(f, answer),
             Answer::Away(Ok(answer)) => write_away(f, answer),
-            Answer::Plan(Err(why)) => write!(f, "{}{}", Refused(why), Plan(Position::start())),
             Answer::Verdict(Err(why)) | Answer::Advice(Err(why)) | Answer::Away(Err(why)) => {
                 write!(f, "{}", Refused(why))
             }
@@ -41,11 +43,15 @@ impl fmt::Display for Answer {
     }
 }
 
-fn write_plan<W: fmt::Write>(f: &mut fmt::Formatter<W>, answer: PlanAnswer) -> fmt::Result {
+fn write_plan<W: fmt::Write>(
+    f: &mut fmt::Formatter<W>,
+    answer: Result<PlanAnswer, Refusal>,
+) -> fmt::Result {
     match answer {
-        PlanAnswer::Limit(n) => write!(f, ": limit trials {n}{}", Plan(Position::start())),
-        PlanAnswer::No(n) => write!(f, ": no trials {n}{}", Plan(Position::start())),
-        PlanAnswer::Yes(plan, n) => write!(f, ": yes trials {n}{}", Plan(plan)),
+        Ok(PlanAnswer::Limit(n)) => write!(f, ": limit trials {n}"),
+        Ok(PlanAnswer::No(n)) => write!(f, ": no trials {n}"),
+        Ok(PlanAnswer::Yes(_, n)) => write!(f, ": yes trials {n}"),
+        Err(why) => write!(f, "{}", Refused(why)),
     }
 }
 

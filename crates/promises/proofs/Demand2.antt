@@ -12,6 +12,7 @@ use Rattle.games.specs.Limit.{Ended, limit, ended, Answer}
 use Rattle.cases.specs.declared.Case.{Case}
 use Rattle.cases.specs.declared.Position.{Position}
 use Rattle.cases.specs.Case.{people, steps}
+use Rattle.cases.specs.Positions.{start_position}
 use Rattle.cases.specs.Plans.{Plan, FirstPlan}
 use Rattle.cases.specs.Questions.{HasPlan, StaticYes, DecrementalYes, OneShotYes, DynamicYes}
 use Rattle.cases.specs.Shown.{StaticNo, DecrementalNo, AnswersPass, OneShotNo}
@@ -27,6 +28,7 @@ use Rattle.planner.specs.declared.Question.TheVariants.{Static, Decremental, One
 use Rattle.refusals.specs.declared.Refusal.{Refusal}
 use Rattle.planner.specs.declared.PlanAnswer.{PlanAnswer}
 use Rattle.planner.specs.declared.PlanAnswer.TheVariants as says
+use Rattle.planner.specs.Answers.{shown_plan}
 use Rattle.planner.specs.Calls.{plan_call, walk_of, question_call, static_call, decremental_call, one_shot_call, dynamic_call, advice_call, away_call}
 use Rattle.planner.specs.Told.{Told, plan_told, verdict_told, advice_told, away_told}
 use Rattle.promises.specs.Ends.{SaysLimit, EndsAfter, Ends, Came}
@@ -65,22 +67,24 @@ plan_in limit = false
 plan_in (ended none) = false
 plan_in (ended (some q)) = true
 
--- where it does not say yes it shows no plan: neither a refusal, nor "limit", nor a no carries one
-pub plan-shows-nothing : (c : Case) (l : ℕ) → ((p : Position) (n : ℕ) → plan_call c l ≡ Ok (says.Yes p n) → ⊥) → (q : List ℕ) → Ends (plan_told (plan_call c l)) (some q) → ⊥
-plan-shows-nothing c l f q e = at (plan_call c l) f e
+-- where it does not say yes it shows no plan: neither a refusal, nor "limit", nor a no carries one, and the position shown is that at the start
+pub plan-shows-nothing : (c : Case) (l : ℕ) → ((p : Position) (n : ℕ) → plan_call c l ≡ Ok (says.Yes p n) → ⊥)
+    → (shown_plan (plan_call c l) ≡ start_position) × ((q : List ℕ) → Ends (plan_told (plan_call c l)) (some q) → ⊥)
+plan-shows-nothing c l f = at (plan_call c l) f
   where
     shown : Option (Answer (Option (List ℕ))) → Bool
     shown none = false
     shown (some a) = plan_in a.out
 
-    none-shown : {d : Told (Option (List ℕ))} → shown d.answer ≡ false → Ends d (some q) → ⊥
-    none-shown h k = true≢false (sym (ap (λ (d : Told (Option (List ℕ))). shown d.answer) k.1) ∙ h)
+    none-shown : {d : Told (Option (List ℕ))} → shown d.answer ≡ false → (q : List ℕ) → Ends d (some q) → ⊥
+    none-shown h q k = true≢false (sym (ap (λ (d : Told (Option (List ℕ))). shown d.answer) k.1) ∙ h)
 
-    at : (a : Result PlanAnswer Refusal) → ((p : Position) (n : ℕ) → a ≡ Ok (says.Yes p n) → ⊥) → Ends (plan_told a) (some q) → ⊥
-    at (Err r) g k = none-shown refl k
-    at (Ok (says.Limit n)) g k = none-shown refl k
-    at (Ok (says.No n)) g k = none-shown refl k
-    at (Ok (says.Yes p n)) g k = g p n refl
+    at : (a : Result PlanAnswer Refusal) → ((p : Position) (n : ℕ) → a ≡ Ok (says.Yes p n) → ⊥)
+        → (shown_plan a ≡ start_position) × ((q : List ℕ) → Ends (plan_told a) (some q) → ⊥)
+    at (Err r) g = (refl, none-shown refl)
+    at (Ok (says.Limit n)) g = (refl, none-shown refl)
+    at (Ok (says.No n)) g = (refl, none-shown refl)
+    at (Ok (says.Yes p n)) g = absurd (g p n refl)
 
 -- ---- Verdicts are yes exactly if the desk wins that game; a no shows what the scope says
 

@@ -154,6 +154,7 @@ use Rattle.asking.proofs.judge_position.Reads as judge-position-reads
 use Rattle.asking.proofs.filled.Reads as filled-reads
 use Rattle.asking.proofs.judge_absent.Reads as judge-absent-reads
 use Rattle.planner.proofs.plan.Reads as plan-reads
+use Rattle.planner.proofs.plan_shown.Reads as plan-shown-reads
 use Rattle.planner.proofs.static_verdict.Reads as static-verdict-reads
 use Rattle.planner.proofs.decremental_verdict.Reads as decremental-verdict-reads
 use Rattle.planner.proofs.one_shot_verdict.Reads as one-shot-verdict-reads
@@ -725,6 +726,9 @@ judge-absent-one κs args r s x y p q = p ∙ sym q
 
 pub plan-one : (κs : _) (args : _) (r s : _) (x y : _) → plan-reads.Post κs args r x → plan-reads.Post κs args s y → r ≡ s
 plan-one κs args r s x y p q = p ∙ sym q
+
+pub plan-shown-one : (κs : _) (args : _) (r s : _) (x y : _) → plan-shown-reads.Post κs args r x → plan-shown-reads.Post κs args s y → r ≡ s
+plan-shown-one κs args r s x y p q = p ∙ sym q
 
 pub static-verdict-one : (κs : _) (args : _) (r s : _) (x y : _) → static-verdict-reads.Post κs args r x → static-verdict-reads.Post κs args s y → r ≡ s
 static-verdict-one κs args r s x y p q = p ∙ sym q

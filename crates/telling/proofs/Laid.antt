@@ -7,7 +7,6 @@ use Rattle.cases.specs.declared.Case.{Case}
 use Rattle.cases.specs.Case.{people, steps}
 use Rattle.laying.specs.Ready.{Ready}
 use Rattle.std.specs.Prelude.{Ok, Err}
-use Rattle.std.specs.Result.{result_and}
 use Rattle.refusals.specs.Refusals.{Judged, Good, judged_by, or_else}
 use Rattle.refusals.specs.CaseChecks.{judged_case}
 use Rattle.files.specs.declared.FileRead.{FileRead}
@@ -26,11 +25,6 @@ use Rattle.planner.specs.OnBoard.{plan_on, plan_answer_on, walk_on}
 use Rattle.telling.specs.Telling.{file_in}
 use Rattle.planner.proofs.Answering.{board, first_good, plan-walked, plan-answered, question-walked, question-answered}
 
--- of two judgements, one and the other
-pub and-later : (a b : Judged) → result_and a b ≡ or_else a b
-and-later (Ok nothing) b = refl
-and-later (Err r) b = refl
-
 pub case-ready : (c : Case) (t : ℕ) → judged_question c t ≡ Good → Ready c
 case-ready c t e = good-ready c (question-good c t e).0
 
@@ -43,11 +37,10 @@ pub asked-as : (q : Question) (c : Case) (t l : ℕ) {b : List ℕ} {x : Verdict
 asked-as q c t l {b} {x} e f y = question-answered q c t l x e (question-walked q c t l b (people c) (steps c) x (case-ready c t e) f refl refl y)
 
 -- an input that is not refused holds a case that is judged with t
-pub input-good : (input : List ℕ) (f : FileRead) (t : ℕ) (k : Judged) → f ≡ read_of (file_in input) → k ≡ judged_by (number_check t ∷ []) → Good ≡ result_and f.judged k
+pub input-good : (input : List ℕ) (f : FileRead) (t : ℕ) (k : Judged) → f ≡ read_of (file_in input) → k ≡ judged_by (number_check t ∷ []) → Good ≡ or_else f.judged k
     → judged_question f.held t ≡ Good
 unfolding read_of
-input-good input f t k e g z =
-    let h : Good ≡ or_else f.judged k = z ∙ and-later f.judged k in
+input-good input f t k e g h =
     let i : f.judged ≡ Good = first_good f.judged k Good h refl in
     let file : judged_file (file_in input) ≡ Good = sym (ap (λ (x : FileRead). x.judged) e) ∙ i in
     let held : judged_case f.held ≡ Good = ap (λ (x : FileRead). judged_case x.held) e ∙ read-case-good (file_in input) file in

@@ -9,8 +9,6 @@ use Rattle.sets.proofs.Lists.{pick-lt}
 use Rattle.cases.specs.declared.Case.{Case}
 use Rattle.std.specs.Prelude.{Result}
 use Rattle.refusals.specs.declared.Refusal.{Refusal}
-use Rattle.std.specs.Result.{result_and}
-use Rattle.telling.proofs.Laid.{and-later}
 use Rattle.refusals.specs.Refusals.{Judged, Good, Refused, judged_by, or_else}
 use Rattle.words.specs.Word.{AllBytes}
 use Rattle.asking.specs.Asking.{number_check}
@@ -75,12 +73,11 @@ lines-put c t l x₀ x₁ x₂ x₃ x₄ x₅ x₆ x₇ p s e o d h₀ h₁ h₂
 -- ---- an input is judged and told
 
 pub input-judged : (input : List ℕ) (f : FileRead) (t : ℕ) (j k : Judged) → f ≡ read_of (file_in input) → t ≡ absent_in input
-    → k ≡ judged_by (number_check t ∷ []) → j ≡ result_and f.judged k → judged_input input ≡ j
+    → k ≡ judged_by (number_check t ∷ []) → j ≡ or_else f.judged k → judged_input input ≡ j
 unfolding judged_input
 input-judged input f t j k ef et ek ej =
     sym
     (ej
-    ∙ and-later f.judged k
     ∙ ap₂ or_else (ap (λ (x : FileRead). x.judged) ef) (ek ∙ ap (λ (n : ℕ). judged_by (number_check n ∷ [])) et))
 
 text-held : (input : List ℕ) (x : Text) → AllBytes input → x ≡ put (held []) (text_of input) → x ≡ held (text_of input)

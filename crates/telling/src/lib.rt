@@ -19,6 +19,7 @@ use files::{FileRead, read};
 use laying::lay_out;
 use pieces::Order;
 use planner::{Question, ask_laid, plan_laid};
+use refusals::or_else;
 pub use text::Text;
 pub use text_lines::{put_asked, put_case, put_plan, put_refusal, put_verdict};
 use words::{long_at, word_at};
@@ -30,7 +31,7 @@ pub fn tell(input: &[u8]) -> Text
     let t = word_at(input, 0) as u32;
     let limit = long_at(input, 2);
     let file = read_file(input);
-    match file.judged.and(judge_number(t)) {
+    match or_else(file.judged, judge_number(t)) {
         Err(refusal) => put_refusal(Text::empty(), refusal),
         Ok(()) => answer_lines(file.held, t, limit),
     }

@@ -1,3 +1,2 @@
--- What writing a case into a lent buffer comes to, and the laws of its entries.
+-- What writing a case into a lent buffer comes to.
 pub mod Writing
-pub mod Lengths

@@ -10,12 +10,12 @@ ghost use Rattle.refusals.specs.Offsets.{person_bytes, step_bytes, row_bytes, ru
 ghost use Rattle.refusals.specs.CaseChecks.{Limited};
 ghost use Rattle.layout.specs.Layout.{start_of, end_of, file_of, head_bytes, bytes_of_person, bytes_of_step, bytes_of_row, bytes_of_rule};
 ghost use Rattle.writing.specs.Writing.{judged_write, write_answer, written, part_bytes, with_part};
-ghost use Rattle.writing.specs.Lengths.{person_long, step_long, row_long, rule_long};
+ghost use Rattle.layout.proofs.Entries.{person_long, step_long, row_long, rule_long};
 
 use cases::{Case, Counts, Rule, StepEntry};
 use judging::judge_case;
 use layout::{Part, end, rows, rules_at, start, steps_at, tables_at, total};
-use refusals::{Refusal, refused_if};
+use refusals::{Refusal, or_else, refused_if};
 use sets::People;
 use words::{put_long, put_word};
 
@@ -34,8 +34,8 @@ pub fn write(case: Case, buffer: &mut [u8]) -> Result<u16, Refusal>
 fn judge_write(case: &Case, room: usize) -> Result<(), Refusal>
     ensures { result ≡ judged_write room case.now }
 {
-    judge_case(*case)?;
-    refused_if(room < total(case.counts), 15, 0)
+    let short = room < total(case.counts);
+    or_else(judge_case(*case), refused_if(short, 15, 0))
 }
 
 // The header, then the four parts. Counts within their limits stand in clauses, as in `judging`.

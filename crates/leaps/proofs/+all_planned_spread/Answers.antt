@@ -6,7 +6,7 @@ use native.Mathlib.Omega.{arith}
 use Prim.Native.Nat.{ℕ}
 use Rattle.sets.specs.Sets.{lowest}
 use Rattle.sets.specs.Stored.{width, number, lowest_number}
-use Rattle.leaps.proofs.Taken.{planned-alone, taking-start, known, taken-fewer, taken-never, on_fits, on_room, on-small, taken-on, taking-end}
+use Rattle.leaps.proofs.Taken.{planned-within, planned-alone, taking-start, known, taken-fewer, taken-never, on_fits, on_room, on-small, taken-on, taking-end}
 use Rattle.leaps.proofs.+all_planned_spread.Goals as goal
 use Rattle.leaps.proofs.+all_planned_spread.Goals.{spread-In-Some}
 
@@ -19,7 +19,8 @@ low c = sym c.in-Some.ensures
 pub spread-returns-then-sets-eq0 : goal.spread-returns-then-sets-eq0
 spread-returns-then-sets-eq0 t c =
     let pre = c.requires in
-    planned-alone pre.3 c.in-Yes.trials c.in-Yes.is (omega arith) pre.0 _ _ c.ranges.limit.fits c.if-sets-eq0.true
+    let within = planned-within pre.3 c.in-Yes.trials c.in-Yes.is (omega arith) pre.0 in
+    planned-alone pre.3 c.in-Yes.trials c.in-Yes.is (omega arith) pre.0 _ _ (omega (arith, within, c.ranges.limit.fits)) c.if-sets-eq0.true
 
 pub spread-loop-v-init : goal.spread-loop-v-init
 spread-loop-v-init t c = taking-start _ _ _ _ _ c.args.walked.met _ c.difference-rest.ensures c.requires.2

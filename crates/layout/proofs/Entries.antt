@@ -1,5 +1,4 @@
--- The laws of entries, as theorems: how many bytes each has. They stand here because a trait can cite no proofs of its own crate; there is nothing in them
--- that a reader has to believe.
+-- How many bytes each entry has.
 use Rattle.std.specs.Prelude.{◌≡◌, ℕ, length, refl}
 use Rattle.sets.specs.declared.People.{People}
 use Rattle.cases.specs.declared.StepEntry.{StepEntry}
