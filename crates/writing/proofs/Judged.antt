@@ -7,8 +7,6 @@ use mathlib.Core.List.{List, [], ◌∷◌, ◌++◌}
 use borrow.Author.Tests.{ltb-false, le-ltb}
 use lib.Dec.{ltb}
 use lib.ListN.{length, drop}
-use Rattle.std.specs.Result.{IsErrAnd}
-use Rattle.std.proofs.lemmas.Result.{err_from_is_err_and}
 use Rattle.cases.specs.declared.Case.{Case}
 use Rattle.refusals.specs.declared.Refusal.{Refusal}
 use Rattle.refusals.specs.Refusals.{Judged, Good, judged_by, or_else, only_check}
@@ -23,16 +21,6 @@ use Rattle.writing.specs.Writing.{Bytes, Refused, room_check, write_checks, judg
 pub case-then-room : (n : ℕ) (c : Case) → judged_write n c ≡ or_else (judged_case c) (judged_by (only_check 15 (ltb n (total_of c.counts)) ∷ []))
 unfolding judged_write write_checks room_check judged_case
 case-then-room n c = judged-append (case_checks c) _
-
--- where the case is refused, that is the refusal; where it is good, the room decides
-module _ (n : ℕ) (c : Case) {j k : Judged} (e : j ≡ judged_case c) where
-  pub case-refused : {r : Refusal} → j ≡ judged.Refused r → IsErrAnd k (λ x. x ≡ r) → k ≡ judged_write n c
-  case-refused {r} f q =
-      let p = err_from_is_err_and k q in
-      p.1 ∙ ap judged.Refused p.2 ∙ sym (case-then-room n c ∙ ap (λ (x : Judged). or_else x (judged_by (only_check 15 (ltb n (total_of c.counts)) ∷ []))) (sym e ∙ f))
-
-  pub case-passed : j ≡ Good → k ≡ judged_by (only_check 15 (ltb n (total_of c.counts)) ∷ []) → k ≡ judged_write n c
-  case-passed g q = q ∙ sym (case-then-room n c ∙ ap (λ (x : Judged). or_else x (judged_by (only_check 15 (ltb n (total_of c.counts)) ∷ []))) (sym e ∙ g))
 
 both-good : (j k : Judged) → or_else j k ≡ Good → (j ≡ Good) × (k ≡ Good)
 both-good (Ok nothing) k e = (refl, e)
