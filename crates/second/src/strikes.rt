@@ -27,7 +27,7 @@ pub fn one_shot(slate: &mut Slate) -> Answer {
 // Every set struck at every node, in ascending number. Which is the first to beat the desk at the start? The empty one where none does.
 fn strike_everywhere(listed: &Listed, cells: &mut Cells) -> usize {
     // No strike yet: the desk holds, in no trials.
-    for struck in cells.struck.iter_mut() {
+    for struck in cells.struck.iter_mut().take(listed.nodes().len()) {
         *struck = Cell::WON;
     }
     let mut strike = 0;
