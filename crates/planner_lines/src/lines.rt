@@ -5,7 +5,7 @@ use cases::{Case, Counts, Person, Position};
 use sets::People;
 
 // What a line says.
-#[derive(Drop)]
+#[derive(Clone, Copy)]
 pub enum Line<'a> {
     Change(Change<'a>),
     Question(Question<'a>),
@@ -13,7 +13,7 @@ pub enum Line<'a> {
 }
 
 // What a line makes of the case.
-#[derive(Drop)]
+#[derive(Clone, Copy)]
 pub enum Change<'a> {
     Empty,
     Counts(Counts),
@@ -21,7 +21,7 @@ pub enum Change<'a> {
 }
 
 // What a line asks about the case.
-#[derive(Drop)]
+#[derive(Clone, Copy)]
 pub enum Question<'a> {
     Plan(u32),
     Static(Terms),

@@ -2,7 +2,7 @@
 ghost use Rattle.std.specs.Iterator.{at_most};
 
 // The numbers that a text writes and that are not read yet. What is no digit stands between them.
-#[derive(Drop)]
+#[derive(Clone, Copy)]
 pub struct Numbers<'a> {
     text: &'a [u8],
     left: u8,

@@ -32,12 +32,12 @@ pub fn first_plan(slate: &mut Slate) -> Answer {
     if start.won {
         Answer::Yes {
             shown: plan_shown(&slate.listed, &slate.cells.plan).who,
-            trials: start.trials,
+            trials: start.trials(),
         }
     } else {
         Answer::No {
             shown: 0,
-            trials: start.trials,
+            trials: start.trials(),
         }
     }
 }
@@ -66,7 +66,7 @@ pub fn static_answer(slate: &mut Slate) -> Answer {
     for set in slate.listed.sets() {
         plan_pass(&slate.listed, &mut slate.cells.plan, *set);
         let start = cell_in(&slate.cells.plan, 0);
-        trials = plus(trials, start.trials);
+        trials = plus(trials, start.trials());
         if !start.won {
             return Answer::No {
                 shown: *set,
@@ -86,16 +86,13 @@ pub fn dynamic(slate: &mut Slate, t: usize) -> Answer {
     pass(listed, &mut slate.cells.dynamic, |cells, node| {
         let all = try_people(listed, node, 0, EVERYBODY, |kid| cell_in(cells, kid));
         let walk = try_people(listed, node, 0, plus(t, 1), |kid| cell_in(cells, kid));
-        Cell {
-            won: meets_every_set(listed, all.good),
-            trials: walk.trials,
-        }
+        Cell::new(meets_every_set(listed, all.good), walk.trials)
     });
     let start = cell_in(&slate.cells.dynamic, 0);
     if start.won {
         return Answer::Yes {
             shown: 0,
-            trials: start.trials,
+            trials: start.trials(),
         };
     }
     let all = try_people(listed, 0, 0, EVERYBODY, |kid| {
@@ -103,7 +100,7 @@ pub fn dynamic(slate: &mut Slate, t: usize) -> Answer {
     });
     Answer::No {
         shown: all.good,
-        trials: start.trials,
+        trials: start.trials(),
     }
 }
 
@@ -129,13 +126,13 @@ pub fn decremental(slate: &mut Slate) -> Answer {
     if start.won {
         return Answer::Yes {
             shown: 0,
-            trials: start.trials,
+            trials: start.trials(),
         };
     }
     let enlarged = away_turn(listed, &cells.desk, 0);
     Answer::No {
         shown: enlarged.beaten_by.unwrap_or(0),
-        trials: start.trials,
+        trials: start.trials(),
     }
 }
 
@@ -177,10 +174,7 @@ struct Enlarged {
 
 impl Enlarged {
     fn cell(self) -> Cell {
-        Cell {
-            won: self.beaten_by.is_none(),
-            trials: self.trials,
-        }
+        Cell::new(self.beaten_by.is_none(), self.trials)
     }
 }
 
@@ -189,7 +183,7 @@ fn away_turn(listed: &Listed, desk: &[Cell], a: usize) -> Enlarged {
     let mut trials = 0;
     for (larger, cell) in rest(listed.sets(), a).iter().zip(rest(desk, a)) {
         if without(current, *larger) == 0 {
-            trials = plus(trials, cell.trials);
+            trials = plus(trials, cell.trials());
             if !cell.won {
                 return Enlarged {
                     beaten_by: Some(*larger),

@@ -13,21 +13,21 @@ pub fn one_shot(slate: &mut Slate) -> Answer {
     if start.won {
         return Answer::Yes {
             shown: 0,
-            trials: start.trials,
+            trials: start.trials(),
         };
     }
     // Where the pass beats the desk, no strike is tried.
     let passed = try_people(listed, 0, 0, 1, |kid| cell_in(&slate.cells.one_shot, kid));
     Answer::No {
         shown: if passed.found == 0 { 0 } else { strike },
-        trials: start.trials,
+        trials: start.trials(),
     }
 }
 
 // Every set struck at every node, in ascending number. Which is the first to beat the desk at the start? The empty one where none does.
 fn strike_everywhere(listed: &Listed, cells: &mut Cells) -> usize {
     // No strike yet: the desk holds, in no trials.
-    for struck in cells.struck.iter_mut() {
+    for struck in cells.struck.iter_mut().take(listed.nodes().len()) {
         *struck = Cell::WON;
     }
     let mut strike = 0;
@@ -48,10 +48,7 @@ fn add_strike(listed: &Listed, struck: &mut [Cell], plan: &[Cell]) {
     let nodes = listed.nodes().len();
     for (before, plan) in struck.iter_mut().zip(plan).take(nodes) {
         if before.won {
-            *before = Cell {
-                won: plan.won,
-                trials: plus(before.trials, plan.trials),
-            };
+            *before = Cell::new(plan.won, plus(before.trials(), plan.trials()));
         }
     }
 }
@@ -65,10 +62,7 @@ fn wait_everywhere(listed: &Listed, cells: &mut Cells) {
             passed.cell()
         } else {
             let strike = cell_in(struck, node);
-            Cell {
-                won: strike.won,
-                trials: plus(passed.trials, strike.trials),
-            }
+            Cell::new(strike.won, plus(passed.trials, strike.trials()))
         }
     });
 }

@@ -13,10 +13,7 @@ pub struct Tried {
 impl Tried {
     // Does somebody leave the desk a win?
     pub fn cell(self) -> Cell {
-        Cell {
-            won: 0 < self.found,
-            trials: self.trials,
-        }
+        Cell::new(0 < self.found, self.trials)
     }
 }
 
@@ -47,7 +44,7 @@ pub fn try_people<F: Fn(usize) -> Cell>(
             tried.trials = plus(tried.trials, 1);
             if let Some(kid) = listed.kid(node, v) {
                 let cell = cell_of(kid);
-                tried.trials = plus(tried.trials, cell.trials);
+                tried.trials = plus(tried.trials, cell.trials());
                 if cell.won {
                     tried.good |= set_of(v);
                     tried.found = plus(tried.found, 1);

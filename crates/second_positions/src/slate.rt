@@ -14,14 +14,18 @@ pub const MOST_CELLS: usize = 200000;
 #[derive(Clone, Copy, PartialEq, Eq)]
 pub struct NoRoom;
 
-// What a cell holds: whether the desk wins, and the trials of the walk from there.
+// What a cell holds: whether the desk wins, and the trials of the walk from there. Trials past any limit that is asked are one number, so that 32 bits
+// are enough for them: there are many cells.
 #[derive(Clone, Copy)]
 pub struct Cell {
     pub won: bool,
-    pub trials: usize,
+    trials: u32,
 }
 
 impl Cell {
+    // Past any limit that is asked.
+    const PAST: usize = 2147483648;
+
     pub const LOST: Cell = Cell {
         won: false,
         trials: 0,
@@ -31,6 +35,17 @@ impl Cell {
         won: true,
         trials: 0,
     };
+
+    pub fn new(won: bool, trials: usize) -> Cell {
+        Cell {
+            won,
+            trials: trials.min(Self::PAST) as u32,
+        }
+    }
+
+    pub fn trials(self) -> usize {
+        self.trials as usize
+    }
 }
 
 // A node stands for all valid positions of one length that no rule still ahead can tell apart: it has the persons of the first of them that was met,
@@ -48,8 +63,8 @@ impl Node {
     };
 }
 
-// A node's kids, its positions longer by one, by the person in the next step.
-type Kids = [Option<usize>; 32];
+// A node's kids, its positions longer by one, by the person in the next step. There are many: two bytes hold a node's number.
+type Kids = [Option<u16>; 32];
 
 // What is listed of a case: its nodes, breadth first, so that a node's kids come after it, and the sets of at most t people in ascending number. Kids
 // stand apart from their nodes, which are looked through again and again, so that these lie close together; and they are too many for the stack. Counts
@@ -133,7 +148,7 @@ impl Listed {
     // The kid with v in the next step.
     pub fn kid(&self, node: usize, v: usize) -> Option<usize> {
         if node < self.kids.len() && v < 32 {
-            self.kids[node][v]
+            self.kids[node][v].map(usize::from)
         } else {
             None
         }
@@ -141,7 +156,7 @@ impl Listed {
 
     pub fn put_kid(&mut self, node: usize, v: usize, kid: Option<usize>) {
         if node < self.kids.len() && v < 32 {
-            self.kids[node][v] = kid;
+            self.kids[node][v] = kid.and_then(|kid| u16::try_from(kid).ok());
         }
     }
 
